@@ -1,0 +1,4 @@
+pub mod Tessellations
+pub mod Validity
+pub mod Walks
+pub mod Relation
