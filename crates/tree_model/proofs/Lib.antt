@@ -1,0 +1,1 @@
+-- Lemmas on names, positions and tables that several crates share.

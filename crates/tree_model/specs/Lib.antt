@@ -1,0 +1,6 @@
+pub mod Automata
+pub mod Conditions
+pub mod Contours
+pub mod Names
+pub mod Positions
+pub mod Places
