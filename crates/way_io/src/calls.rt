@@ -34,6 +34,8 @@ impl Calls {
         ensures made { self.new ≡ one_more self.old }
     {
         self.made = self.made.saturating_add(1);
-        self.failing.iter().any(|number| u64::from(*number) == self.made)
+        self.failing
+            .iter()
+            .any(|number| u64::from(*number) == self.made)
     }
 }

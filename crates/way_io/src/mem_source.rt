@@ -34,7 +34,12 @@ impl MemSource {
     /// # Errors
     ///
     /// `AllocError` where there is no memory for the copies of `bytes` and `failing`.
-    pub fn new(alloc: Global, bytes: &[u8], step: u32, failing: &[u32]) -> Result<MemSource, AllocError>
+    pub fn new(
+        alloc: Global,
+        bytes: &[u8],
+        step: u32,
+        failing: &[u32],
+    ) -> Result<MemSource, AllocError>
         requires { 1 ≤ step }
         ensures { IfOk result (λ source. source ≡ record { left = bytes.now; step = step; calls = no_calls failing.now; faults = 0 }) }
     {
