@@ -76,20 +76,31 @@ pub record IsLeft (read rest name : List ℕ) : Type 0 where
 pub record IsReadTo (bytes read rest : List ℕ) : Type 0 where
   pub is_name : IsName read
   pub spells : (left : List ℕ) → rest ≡ behind left → name_text (read ++ left) ≡ bytes
-  pub goes_on : (side : ℕ) (sides : List ℕ) → IsSpelling bytes (side ∷ sides) → IsLeft read rest (side ∷ sides)
+  pub goes_on : (name : List ℕ) → IsSpelling bytes name → IsLeft read rest name
+
+-- where the bytes are neither `-` nor begin with a side, they spell no name
+pub no_name : (bytes name : List ℕ) → bytes ≢ codes "-" → ((side : ℕ) (tail : List ℕ) → side < 64 → bytes ≡ decimal side ++ tail → NoDigit tail → ⊥) → IsSpelling bytes name → ⊥
+no_name bytes [] no_dash none spelt = no_dash (sym spelt.text)
+no_name bytes (side ∷ sides) no_dash none spelt =
+    none side (behind sides) (below side sides spelt.is_name) (sym spelt.text ∙ name_text-cons side sides) (NoDigit-behind sides)
 
 -- what `take_side` promises where it takes this side
 abbrev pub TakesSide : List ℕ → ℕ → List ℕ → Type 0
 TakesSide bytes side rest = (side' : ℕ) (tail : List ℕ) → side' < 64 → bytes ≡ decimal side' ++ tail → NoDigit tail → (side ≡ side') × (rest ≡ tail)
 
+starts : (bytes : List ℕ) (first : ℕ) (rest : List ℕ) → first < 64 → bytes ≡ decimal first ++ rest → TakesSide bytes first rest → (name : List ℕ) → IsSpelling bytes name → IsLeft (first ∷ []) rest name
+starts bytes first rest small split takes [] spelt =
+    absurd (no_side (codes "-") first rest NoDigit-dash small (spelt.text ∙ split))
+starts bytes first rest small split takes (side ∷ sides) spelt =
+    let text : bytes ≡ decimal side ++ behind sides = sym spelt.text ∙ name_text-cons side sides in
+    let same = takes side (behind sides) (below side sides spelt.is_name) text (NoDigit-behind sides) in
+    record { left = sides; split = ap (λ (s : ℕ). s ∷ sides) (sym same.0); is_name = others side sides spelt.is_name; text = same.1 }
+
 pub begun : (bytes : List ℕ) (first : ℕ) (rest read : List ℕ) → first < 64 → bytes ≡ decimal first ++ rest → TakesSide bytes first rest → read ≡ first ∷ [] → IsReadTo bytes read rest
 begun bytes first rest read small split takes is = subst (λ (r : List ℕ). IsReadTo bytes r rest) (sym is) (record {
     is_name = All-cons (λ s. s < 64) first [] small (All-nil (λ s. s < 64));
     spells = λ left e. name_text-cons first left ∙ ap (λ (l : List ℕ). decimal first ++ l) (sym e) ∙ sym split;
-    goes_on = λ side sides spelt.
-      let text : bytes ≡ decimal side ++ behind sides = sym spelt.text ∙ name_text-cons side sides in
-      let same = takes side (behind sides) (below side sides spelt.is_name) text (NoDigit-behind sides) in
-      record { left = sides; split = ap (λ (s : ℕ). s ∷ sides) (sym same.0); is_name = others side sides spelt.is_name; text = same.1 };
+    goes_on = starts bytes first rest small split takes;
   })
 
 -- where there are more bytes, a name that goes on has a dot and a side there
@@ -116,8 +127,8 @@ read_on bytes read rest more side tail read' so_far is small split takes now = s
     spells = λ left e.
       ap name_text (append_assoc read (side ∷ []) left)
       ∙ so_far.spells (side ∷ left) (is ∙ ap (λ (l : List ℕ). dot ∷ l) (split ∙ ap (λ (l : List ℕ). decimal side ++ l) e));
-    goes_on = λ first sides spelt.
-      let n = next read rest dot more (first ∷ sides) (so_far.goes_on first sides spelt) is in
+    goes_on = λ name spelt.
+      let n = next read rest dot more name (so_far.goes_on name spelt) is in
       let same = takes n.side (behind n.left) n.small n.text (NoDigit-behind n.left) in
       record {
         left = n.left;
@@ -138,7 +149,7 @@ read_whole bytes read rest so_far none = record {
     text = ap name_text (sym (append-nil read)) ∙ so_far.spells [] none;
   }
 
-pub read_name_is : (bytes read rest : List ℕ) (side : ℕ) (sides : List ℕ) → IsReadTo bytes read rest → rest ≡ [] → IsSpelling bytes (side ∷ sides) → read ≡ side ∷ sides
-read_name_is bytes read rest side sides so_far none spelt =
-    let l = so_far.goes_on side sides spelt in
-    end_of read (side ∷ sides) l.left l.split (sym none ∙ l.text)
+pub read_alone : (bytes read rest name : List ℕ) → IsReadTo bytes read rest → rest ≡ [] → IsSpelling bytes name → read ≡ name
+read_alone bytes read rest name so_far none spelt =
+    let l = so_far.goes_on name spelt in
+    end_of read name l.left l.split (sym none ∙ l.text)

@@ -1,5 +1,5 @@
 //! The text of a name: `-` for the root, else its sides joined by `.`.
-ghost use Rattle.std.specs.Prelude.{◌≡◌, ◌≢◌, ℕ, ◌+◌, ◌<◌, ◌≤◌, List, ◌∷◌, ◌++◌, length, decimal, Err, IfSome, IfNone, IfOk, IsSomeAnd, IsErrOf, MatchResult, ◌⊎◌};
+ghost use Rattle.std.specs.Prelude.{◌≡◌, ◌≢◌, ℕ, ◌+◌, ◌<◌, ◌≤◌, List, ◌∷◌, ◌++◌, length, codes, decimal, Err, IfSome, IfNone, IfOk, IsSomeAnd, IsErrOf, MatchResult, ◌⊎◌};
 ghost use Rattle.cell_names.specs.Text.{name_text, IsSpelling, NoDigit};
 
 use crate::Name;
@@ -52,6 +52,7 @@ pub fn print_name(alloc: Global, name: &Name) -> Result<Vec<u8>, AllocError>
 }
 
 /// Reads the text of a name of at most 4,000 sides.
+#[tactic(auto, using(crate::proofs::Reading::spelling_unique))]
 pub fn read_name(alloc: Global, bytes: &[u8]) -> Result<Name, NameFault>
     // What is read has this text, and what has this text is read.
     ensures spelt { IfOk result (λ name. IsSpelling bytes.now name) }
@@ -71,22 +72,22 @@ pub fn read_name(alloc: Global, bytes: &[u8]) -> Result<Name, NameFault>
     // No bytes spell two names.
     ensures unique { (name other : List ℕ) → IsSpelling bytes.now name → IsSpelling bytes.now other → name ≡ other }
 {
-    let name = if bytes == b"-".as_slice() {
-        Name::root(alloc)
-    } else {
-        read_sides(alloc, bytes)?
-    };
+    if bytes == b"-".as_slice() {
+        return Ok(Name::root(alloc));
+    }
+    let name = read_sides(alloc, bytes)?;
     if name.len() > LONGEST {
         return Err(NameFault::Deep);
     }
     Ok(name)
 }
 
-/// Reads the text of a name that is not empty, of any length.
+/// Reads the text of a name that is not the root's, of any length.
 fn read_sides(alloc: Global, bytes: &[u8]) -> Result<Name, NameFault>
+    requires { bytes.now ≢ codes "-" }
     ensures spelt { IfOk result (λ name. IsSpelling bytes.now name) }
-    ensures complete { (side : ℕ) (sides : List ℕ) → IsSpelling bytes.now (side ∷ sides)
-        → MatchResult result (λ read. read ≡ side ∷ sides) (λ fault. fault ≡ NameFault.Memory) }
+    ensures complete { (name : List ℕ) → IsSpelling bytes.now name
+        → MatchResult result (λ read. read ≡ name) (λ fault. fault ≡ NameFault.Memory) }
     ensures not_deep { result ≢ Err NameFault.Deep }
 {
     let Some((first, mut rest)) = take_side(bytes) else {
@@ -123,7 +124,10 @@ fn take_side(bytes: &[u8]) -> Option<(u8, &[u8])>
         return Some((tens, behind_tens));
     };
     let side = 10 * tens + units;
-    (side < 64).then_some((side, behind_units))
+    if side >= 64 {
+        return None;
+    }
+    Some((side, behind_units))
 }
 
 /// The digit that the bytes begin with, and what stands behind it.

@@ -1,0 +1,25 @@
+use Rattle.std.proofs.Common.{◌≡◌, ℕ, ◌+◌, List, ◌∷◌, ◌++◌, sym, ◌∙◌, ap, arith, decimal}
+use Rattle.cell_names.proofs.Digits.{decimal-one, decimal-two, no_side, lone_digit, zero_digit, two_digits}
+use Rattle.cell_names.proofs.text.take_side.Goals as goal
+
+pub returns-in_err-tens-clause-complete : goal.returns-in_err-tens-clause-complete
+returns-in_err-tens-clause-complete c = λ side tail small is none.
+    absurd (no_side _ side tail c.in_err-tens.ensures.none small is)
+
+pub returns-then-tens-eq0-clause-split : goal.returns-then-tens-eq0-clause-split
+returns-then-tens-eq0-clause-split c =
+    c.in_ok-tens.ensures.split
+    ∙ ap (λ (n : ℕ). (48 + n) ∷ c.in_ok-tens.behind_tens.now) c.if-tens-eq0.true
+    ∙ sym (decimal-one 0 c.in_ok-tens.behind_tens.now (omega arith))
+
+pub returns-then-tens-eq0-clause-complete : goal.returns-then-tens-eq0-clause-complete
+returns-then-tens-eq0-clause-complete c = λ side tail small is none.
+    zero_digit _ side tail small (sym (ap (λ (n : ℕ). (48 + n) ∷ c.in_ok-tens.behind_tens.now) c.if-tens-eq0.true) ∙ sym c.in_ok-tens.ensures.split ∙ is)
+
+pub returns-in_default-clause-split : goal.returns-in_default-clause-split
+returns-in_default-clause-split c =
+    c.in_ok-tens.ensures.split ∙ sym (decimal-one c.in_ok-tens.tens _ c.in_ok-tens.ensures.below)
+
+pub returns-in_default-clause-complete : goal.returns-in_default-clause-complete
+returns-in_default-clause-complete c = λ side tail small is none.
+    lone_digit c.in_ok-tens.tens _ side tail c.in_ok-tens.ensures.below c.in_default.ensures.none small (sym c.in_ok-tens.ensures.split ∙ is)
