@@ -142,14 +142,23 @@ end_of : (read name left : List ℕ) → name ≡ read ++ left → [] ≡ behind
 end_of read name [] split text = sym (append-nil read) ∙ sym split
 end_of read name (side ∷ left) split text = absurd (cc (text))
 
+no_bytes : (rest : List ℕ) → length rest ≡ 0 → rest ≡ []
+no_bytes [] none = refl
+no_bytes (byte ∷ rest) none = absurd (omega (arith, none))
+
 -- at the end of the bytes the sides read are the name
-pub read_whole : (bytes read rest : List ℕ) → IsReadTo bytes read rest → rest ≡ [] → IsSpelling bytes read
+pub read_whole : (bytes read rest : List ℕ) → IsReadTo bytes read rest → length rest ≡ 0 → IsSpelling bytes read
 read_whole bytes read rest so_far none = record {
     is_name = so_far.is_name;
-    text = ap name_text (sym (append-nil read)) ∙ so_far.spells [] none;
+    text = ap name_text (sym (append-nil read)) ∙ so_far.spells [] (no_bytes rest none);
   }
 
-pub read_alone : (bytes read rest name : List ℕ) → IsReadTo bytes read rest → rest ≡ [] → IsSpelling bytes name → read ≡ name
+pub read_alone : (bytes read rest name : List ℕ) → IsReadTo bytes read rest → length rest ≡ 0 → IsSpelling bytes name → read ≡ name
 read_alone bytes read rest name so_far none spelt =
     let l = so_far.goes_on name spelt in
-    end_of read name l.left l.split (sym none ∙ l.text)
+    end_of read name l.left l.split (sym (no_bytes rest none) ∙ l.text)
+
+-- `-` spells the empty name alone
+pub root_alone : (bytes name : List ℕ) → bytes ≡ codes "-" → IsSpelling bytes name → [] ≡ name
+root_alone bytes name is spelt =
+    spelling_unique bytes [] name (record { is_name = All-nil (λ s. s < 64); text = sym is }) spelt

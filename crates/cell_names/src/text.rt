@@ -52,7 +52,6 @@ pub fn print_name(alloc: Global, name: &Name) -> Result<Vec<u8>, AllocError>
 }
 
 /// Reads the text of a name of at most 4,000 sides.
-#[tactic(auto, using(crate::proofs::Reading::spelling_unique))]
 pub fn read_name(alloc: Global, bytes: &[u8]) -> Result<Name, NameFault>
     // What is read has this text, and what has this text is read.
     ensures spelt { IfOk result (λ name. IsSpelling bytes.now name) }
