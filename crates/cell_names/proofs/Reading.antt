@@ -98,10 +98,10 @@ starts bytes first rest small split takes (side ∷ sides) spelt =
 
 pub begun : (bytes : List ℕ) (first : ℕ) (rest read : List ℕ) → first < 64 → bytes ≡ decimal first ++ rest → TakesSide bytes first rest → read ≡ first ∷ [] → IsReadTo bytes read rest
 begun bytes first rest read small split takes is = subst (λ (r : List ℕ). IsReadTo bytes r rest) (sym is) (record {
-    is_name = All-cons (λ s. s < 64) first [] small (All-nil (λ s. s < 64));
-    spells = λ left e. name_text-cons first left ∙ ap (λ (l : List ℕ). decimal first ++ l) (sym e) ∙ sym split;
-    goes_on = starts bytes first rest small split takes;
-  })
+  is_name = All-cons (λ s. s < 64) first [] small (All-nil (λ s. s < 64));
+  spells = λ left e. name_text-cons first left ∙ ap (λ (l : List ℕ). decimal first ++ l) (sym e) ∙ sym split;
+  goes_on = starts bytes first rest small split takes;
+})
 
 -- where there are more bytes, a name that goes on has a dot and a side there
 pub record IsNext (read bytes name : List ℕ) (separator : ℕ) : Type 0 where
@@ -123,11 +123,11 @@ next read rest separator more name l is = next_of read separator more name l.lef
 
 pub read_on : (bytes read rest more : List ℕ) (side : ℕ) (tail read' : List ℕ) → IsReadTo bytes read rest → rest ≡ dot ∷ more → side < 64 → more ≡ decimal side ++ tail → TakesSide more side tail → read' ≡ read ++ side ∷ [] → IsReadTo bytes read' tail
 read_on bytes read rest more side tail read' so_far is small split takes now = subst (λ (r : List ℕ). IsReadTo bytes r tail) (sym now) (record {
-    is_name = All-push (λ s. s < 64) read side so_far.is_name small;
-    spells = λ left e.
+  is_name = All-push (λ s. s < 64) read side so_far.is_name small;
+  spells = λ left e.
       ap name_text (append_assoc read (side ∷ []) left)
       ∙ so_far.spells (side ∷ left) (is ∙ ap (λ (l : List ℕ). dot ∷ l) (split ∙ ap (λ (l : List ℕ). decimal side ++ l) e));
-    goes_on = λ name spelt.
+  goes_on = λ name spelt.
       let n = next read rest dot more name (so_far.goes_on name spelt) is in
       let same = takes n.side (behind n.left) n.small n.text (NoDigit-behind n.left) in
       record {
@@ -136,7 +136,7 @@ read_on bytes read rest more side tail read' so_far is small split takes now = s
         is_name = n.is_name;
         text = same.1;
       };
-  })
+})
 
 end_of : (read name left : List ℕ) → name ≡ read ++ left → [] ≡ behind left → read ≡ name
 end_of read name [] split text = sym (append-nil read) ∙ sym split
@@ -149,9 +149,9 @@ no_bytes (byte ∷ rest) none = absurd (omega (arith, none))
 -- at the end of the bytes the sides read are the name
 pub read_whole : (bytes read rest : List ℕ) → IsReadTo bytes read rest → length rest ≡ 0 → IsSpelling bytes read
 read_whole bytes read rest so_far none = record {
-    is_name = so_far.is_name;
-    text = ap name_text (sym (append-nil read)) ∙ so_far.spells [] (no_bytes rest none);
-  }
+  is_name = so_far.is_name;
+  text = ap name_text (sym (append-nil read)) ∙ so_far.spells [] (no_bytes rest none);
+}
 
 pub read_alone : (bytes read rest name : List ℕ) → IsReadTo bytes read rest → length rest ≡ 0 → IsSpelling bytes name → read ≡ name
 read_alone bytes read rest name so_far none spelt =

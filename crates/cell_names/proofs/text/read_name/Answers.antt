@@ -1,4 +1,4 @@
-use Rattle.std.proofs.Common.{◌≡◌, ◌∙◌, rules}
+use Rattle.std.proofs.Common.{◌∙◌, rules}
 use Rattle.cell_names.proofs.Reading.{root_alone, spelling_unique}
 use Rattle.cell_names.proofs.text.read_name.Goals as goal
 

@@ -1,5 +1,4 @@
-use Rattle.std.proofs.Common.{ℕ, List, ◌∷◌, ◌++◌, [], refl, sym, ◌∙◌, ap}
-use Rattle.cell_names.specs.Text.{dot}
+use Rattle.std.proofs.Common.{ℕ, List, ◌∷◌, ◌++◌, [], ◌∙◌, ap}
 use Rattle.cell_names.proofs.Reading.{no_name, begun, next, read_on, read_whole, read_alone, behind, NoDigit-behind}
 use Rattle.cell_names.proofs.text.read_sides.Goals as goal
 

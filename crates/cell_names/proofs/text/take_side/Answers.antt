@@ -1,4 +1,4 @@
-use Rattle.std.proofs.Common.{◌≡◌, ℕ, ◌+◌, List, ◌∷◌, ◌++◌, sym, ◌∙◌, ap, arith, decimal}
+use Rattle.std.proofs.Common.{ℕ, ◌+◌, List, ◌∷◌, sym, ◌∙◌, ap, arith}
 use Rattle.cell_names.proofs.Digits.{decimal-one, decimal-two, no_side, lone_digit, zero_digit, two_digits}
 use Rattle.cell_names.proofs.text.take_side.Goals as goal
 
