@@ -2,6 +2,8 @@
 #![tactic(auto)]
 
 mod name;
+#[cfg(test)]
+mod tests;
 mod text;
 
 pub use name::Name;
