@@ -1,2 +1,3 @@
 pub mod WorkedValues
 pub mod Types
+pub mod Relations
