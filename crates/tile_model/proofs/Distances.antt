@@ -1,15 +1,15 @@
 -- The distance of two walks: one number, of the tiles alone, the same both ways, nothing at one tile only, and the triangle.
-use Rattle.std.proofs.Common.{◌≡◌, ℕ, zero, suc, ◌+◌, ◌<◌, ◌≤◌, List, [], ◌∷◌, ◌++◌, replicate, refl, sym, ap, ap₂, ◌∙◌, subst, arith, zero-le, append_assoc, append-nil, le_antisymm}
+use Rattle.std.proofs.Common.{◌≡◌, ℕ, ◌+◌, ◌≤◌, List, [], ◌∷◌, ◌++◌, replicate, refl, sym, ap₂, ◌∙◌, subst, arith, zero-le, append_assoc, append-nil, le_antisymm}
 use Rattle.tile_model.specs.declared.Letter.{Letter}
 use Rattle.tile_model.specs.declared.Letter.TheVariants.{L, R, X}
-use Rattle.tile_model.specs.Tessellations.{TileKind, IsType, sides}
+use Rattle.tile_model.specs.Tessellations.{TileKind, IsType}
 use Rattle.tile_model.specs.Validity.{IsValid}
 use Rattle.tile_model.specs.Walks.{type_of, crossings, inverse}
 use Rattle.tile_model.specs.Relation.{right_and_left, AreRelated, AreAtSameTile, IsDistance}
 use Rattle.tile_model.proofs.Types.{walk_type}
 use Rattle.tile_model.proofs.Relations.{related_equal, related_same, related_back, related_on, related_behind, related_before, loop_empty}
-use Rattle.tile_model.proofs.Inverses.{crossings_append, crossings_inverse, crossings_lefts, inverse_inverse, inverse_cancels, there_back_on, back_there_on}
-use Rattle.tile_model.proofs.SameTile.{related_same_tile, same_tile_same, same_tile_back, same_tile_on, same_tile_before, same_tile_cancel}
+use Rattle.tile_model.proofs.Inverses.{crossings_append, crossings_inverse, crossings_lefts, inverse_cancels, there_back_on}
+use Rattle.tile_model.proofs.SameTile.{related_same_tile, same_tile_back, same_tile_on, same_tile_before, same_tile_cancel}
 
 -- a walk with n crossings from the tile of u to the tile of w
 abbrev pub Way : List TileKind → ℕ × ℕ → List Letter → List Letter → ℕ → Type 0

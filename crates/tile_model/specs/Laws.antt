@@ -1,5 +1,5 @@
 -- What the definitions come to: laws of types, of related walks, of the way back, of walks at the same tile and of distances.
-use Rattle.std.specs.Prelude.{◌≡◌, ℕ, ◌+◌, ◌%◌, ◌<◌, ◌≤◌, ◌↔◌, List, [], ◌++◌, replicate}
+use Rattle.std.specs.Prelude.{◌≡◌, ℕ, ◌+◌, ◌%◌, ◌≤◌, ◌↔◌, List, [], ◌++◌, replicate}
 use Rattle.tile_model.specs.declared.Letter.{Letter}
 use Rattle.tile_model.specs.declared.Letter.TheVariants.{L}
 use Rattle.tile_model.specs.Tessellations.{TileKind, kind_at, IsType, left, right, cross}

@@ -1,4 +1,4 @@
-use Rattle.tile_model.proofs.Distances.{one_distance, distance_before, distance_cancel, distance_from, distance_to, distance_back, distance_zero, zero_distance, triangle}
+use Rattle.tile_model.proofs.Distances.{distance_before, distance_cancel, distance_from, distance_to, distance_back, distance_zero, zero_distance, triangle}
 use Rattle.tile_model.proofs.laws.distance_laws.Goals as goal
 
 pub returns-clause-of_tiles : goal.returns-clause-of_tiles
