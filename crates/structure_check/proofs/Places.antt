@@ -227,8 +227,3 @@ module _ (kinds : List TileKind) (a : TreeAutomaton) where
       c11 = at_corners SmallChange 13 (omega arith) below;
       c12 = at_corners GreaterOuter 13 (omega arith) below
     }
-
-  -- a first broken place refutes acceptance: all conditions hold at all their places
-  choose : (b : Bool) (P Q : Type 0) → (b ≡ true → P) → Q → MatchBool b P Q
-  choose true P Q yes no = yes refl
-  choose false P Q yes no = no

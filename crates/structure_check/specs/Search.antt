@@ -1,5 +1,5 @@
 -- The search for the first broken place: what has been found to hold so far, and what each check stands on.
-use Rattle.std.specs.Prelude.{◌≡◌, ℕ, suc, ◌<◌, ◌≤◌, List, length}
+use Rattle.std.specs.Prelude.{◌≡◌, ℕ, suc, ◌<◌, ◌≤◌, List, length, slice_index_or, ℤ, pos, nat_abs}
 use Rattle.tile_model.specs.Tessellations.{TileKind}
 use Rattle.tree_model.specs.declared.Rule.TheVariants.{Child}
 use Rattle.tree_model.specs.Automata.{TreeAutomaton, side_count, rule_at, claim_at, corner_valence}
@@ -27,6 +27,10 @@ part_number Offsets = 2
 part_number Outers = 3
 part_number Sizes = 4
 part_number Targets = 5
+
+-- no offset is over 64 in absolute value
+abbrev pub AreSmall : List ℤ → Type 0
+AreSmall offsets = (t : ℕ) → t < length offsets → nat_abs (slice_index_or offsets t (pos 0)) ≤ 64
 
 -- the rule and the claim of side i of state s name states, corner types and places that are there
 pub record HasTargetsAt (a : TreeAutomaton) (s i : ℕ) : Type 0 where

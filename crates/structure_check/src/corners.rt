@@ -1,5 +1,5 @@
 // The conditions on corner types, which make the crossing by brackets end.
-ghost use Rattle.std.specs.Prelude.{◌≡◌, ◌-◌, ◌<◌, ◌↔◌, ℕ, suc, List, length, IsTrue, OnOk, IfErr};
+ghost use Rattle.std.specs.Prelude.{◌≡◌, ◌-◌, ◌<◌, ◌≤◌, ℤ, pos, ◌+ℤ◌, ◌-ℤ◌, ◌*ℤ◌, ◌<ℤ◌, ◌↔◌, ℕ, suc, List, length, IsTrue, OnOk, IfErr};
 ghost use Rattle.tile_model.specs.Tessellations.{TileKind};
 ghost use Rattle.tree_model.specs.Automata.{offset, corner_valence};
 ghost use Rattle.tree_model.specs.Conditions.{HasOneChange, HasSmallChange, HasGreaterOuter};
@@ -38,6 +38,22 @@ fn last_offset(a: &Automaton, g: u32) -> i8
     a.offset(g, (a.valence(g) - 1) as u8)
 }
 
+/// Whether two differences are equal.
+fn differ_alike(x: i8, y: i8, z: i8, w: i8) -> bool
+    ensures { IsTrue result ↔ (x -ℤ y ≡ z -ℤ w) }
+{
+    x as i16 - y as i16 == z as i16 - w as i16
+}
+
+/// Whether a rank plus the scale times an offset is below another rank, computed without loss.
+fn is_outweighed(rank: u32, scale: u32, offset: i8, other: u32) -> bool
+    requires { scale ≤ 65536 }
+    ensures { IsTrue result ↔ ((pos rank +ℤ (pos scale *ℤ offset)) <ℤ pos other) }
+{
+    let weight = rank as i64 + scale as i64 * offset as i64;
+    weight < other as i64
+}
+
 /// Whether the depth changes across the key edge by as much seen from the outer corner as seen from the corner itself.
 fn has_one_change(a: &Automaton, g: u32) -> bool
     requires corners { HasCorners a.now }
@@ -45,9 +61,9 @@ fn has_one_change(a: &Automaton, g: u32) -> bool
     ensures { IsTrue result ↔ HasOneChange a.now g }
 {
     let outer = a.outer(g);
-    let entered = a.offset(outer.corner, outer.place) as i16;
-    let behind = a.offset(outer.corner, outer.place + 1) as i16;
-    behind - entered == last_offset(a, g) as i16 - a.offset(g, 0) as i16
+    let entered = a.offset(outer.corner, outer.place);
+    let behind = a.offset(outer.corner, outer.place + 1);
+    differ_alike(behind, entered, last_offset(a, g), a.offset(g, 0))
 }
 
 /// Whether that change is -1, 0 or 1.
@@ -67,8 +83,8 @@ fn has_greater_outer(a: &Automaton, g: u32) -> bool
     ensures { IsTrue result ↔ HasGreaterOuter a.now g }
 {
     let outer = a.outer(g);
-    let entered = a.offset(outer.corner, outer.place) as i64;
-    (a.rank(g) as i64) + (a.scale as i64) * entered < a.rank(outer.corner) as i64
+    let entered = a.offset(outer.corner, outer.place);
+    is_outweighed(a.rank(g), a.scale, entered, a.rank(outer.corner))
 }
 
 /// Whether the condition holds of a corner type.

@@ -4,6 +4,7 @@
 mod broken;
 mod conditions;
 mod corners;
+mod reading;
 mod roots;
 mod rules;
 mod sides;

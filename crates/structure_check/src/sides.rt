@@ -1,16 +1,16 @@
 // The conditions on the sides and claims of states, which make the tables describe one tree in the tessellation.
-ghost use Rattle.std.specs.Prelude.{pos, ◌+ℤ◌, ◌≡◌, ◌<◌, ◌↔◌, ℕ, suc, length, IsTrue, IfNone, IfSome, OnOk, IfErr};
-ghost use Rattle.tile_model.specs.Tessellations.{IsType};
+ghost use Rattle.std.specs.Prelude.{◌≡◌, ◌<◌, ◌↔◌, ℕ, suc, length, IsTrue, IfNone, IfSome, OnOk, IfErr};
 ghost use Rattle.tree_model.specs.declared.Claim.{Claim};
-ghost use Rattle.tree_model.specs.Automata.{rule_at, claim_at, side_count, type_at, offset, corner_valence, next, previous, further};
-ghost use Rattle.tree_model.specs.Conditions.{IsClosedTable, AtEverySide, HasParentRule, HasChildType, HasClaimValence, HasFirstPlace, HasLastPlace, HasOuterBefore, HasOuterBehind, HasChildClaims, KeepsClaims};
+ghost use Rattle.tree_model.specs.Automata.{side_count, further};
+ghost use Rattle.tree_model.specs.Conditions.{IsClosedTable, AtEverySide, HasParentRule, HasChildType, HasClaimValence, HasFirstPlace, HasLastPlace, HasOuterBefore, HasOuterBehind, KeepsClaims};
 ghost use Rattle.structure_check.specs.Broken.{IsFirstBroken};
 ghost use Rattle.structure_check.specs.Search.{HoldBelow, IsSideReady, SideHolds, SidesBelow, side_number};
 
 use rules_data::{Automaton, Claim, Rule};
-use tile_kinds::{DartType, Tessellation};
+use tile_kinds::Tessellation;
 
 use crate::broken::Broken;
+use crate::reading::{claim_before, is_deeper, side_behind, sides_of, type_of};
 use crate::roots::{is_root, is_root_of_its_kind};
 
 /// A condition that is read at each side or claim of each state.
@@ -42,70 +42,12 @@ fn number(condition: SideCondition) -> u8
     }
 }
 
-/// The number of sides of a tile in state `s`.
-fn side_count_of(tess: &Tessellation, a: &Automaton, s: u32) -> u8
-    requires closed { IsClosedTable tess.now a.now }
-    requires state { s < length a.now.states }
-    ensures value { result ≡ side_count tess.now a.now s }
-    ensures at_most { result ≤ 64 }
-{
-    tess.kind(a.state(s).kind).sides
-}
-
-/// The type of side `i` of a tile in state `s`.
-fn type_of(tess: &Tessellation, a: &Automaton, s: u32, i: u8) -> DartType
-    requires closed { IsClosedTable tess.now a.now }
-    requires state { s < length a.now.states }
-    requires side { i < side_count tess.now a.now s }
-    ensures value { result ≡ type_at tess.now a.now s i }
-    ensures is_type { IsType tess.now result }
-{
-    let state = a.state(s);
-    let kind = tess.kind(state.kind);
-    DartType {
-        kind: state.kind,
-        residue: (state.off + i) % kind.repeat,
-    }
-}
-
-/// The claim of the corner before side `i`, at its right end.
-fn claim_before(tess: &Tessellation, a: &Automaton, s: u32, i: u8) -> Claim
-    requires closed { IsClosedTable tess.now a.now }
-    requires state { s < length a.now.states }
-    requires side { i < side_count tess.now a.now s }
-    ensures { result ≡ claim_at a.now s (previous (side_count tess.now a.now s) i) }
-{
-    let sides = side_count_of(tess, a, s);
-    a.claim(s, if i == 0 { sides - 1 } else { i - 1 })
-}
-
-/// The side behind side `i`, at its left.
-fn side_behind(tess: &Tessellation, a: &Automaton, s: u32, i: u8) -> u8
-    requires closed { IsClosedTable tess.now a.now }
-    requires state { s < length a.now.states }
-    requires side { i < side_count tess.now a.now s }
-    ensures value { result ≡ next (side_count tess.now a.now s) i }
-    ensures side { result < side_count tess.now a.now s }
-{
-    if i + 1 == side_count_of(tess, a, s) { 0 } else { i + 1 }
-}
-
 /// Whether a claim is another one with 1 added to its place.
 fn is_further(claim: Claim, before: Claim) -> bool
     requires { before.place < 64 }
     ensures { IsTrue result ↔ (claim ≡ further before) }
 {
     claim.corner == before.corner && claim.place == before.place + 1
-}
-
-/// Whether the tile at place `t` of a corner lies one level deeper than the one at place `u`.
-fn is_deeper(a: &Automaton, g: u32, t: u8, u: u8) -> bool
-    requires corner { g < length a.now.corners }
-    requires deeper { t < corner_valence a.now g }
-    requires other { u < corner_valence a.now g }
-    ensures { IsTrue result ↔ (offset a.now g t ≡ offset a.now g u +ℤ pos 1) }
-{
-    a.offset(g, t) as i16 == a.offset(g, u) as i16 + 1
 }
 
 /// Whether side 0 is Parent in a state that is no root and no other side is, no child is a root, and roots fit their kinds.
@@ -208,7 +150,7 @@ fn keeps_claims(tess: &Tessellation, a: &Automaton, s: u32, i: u8) -> bool
     let left = a.claim(s, i);
     is_further(a.claim(c, 0), right)
         && is_deeper(a, right.corner, right.place + 1, right.place)
-        && is_further(left, a.claim(c, side_count_of(tess, a, c) - 1))
+        && is_further(left, a.claim(c, sides_of(tess, a, c) - 1))
         && is_deeper(a, left.corner, left.place - 1, left.place)
 }
 
@@ -242,7 +184,7 @@ fn failing_side(condition: SideCondition, tess: &Tessellation, a: &Automaton, s:
     ensures fails { IfSome result (λ i. ¬ (SideHolds condition tess.now a.now s i)) }
     ensures before { IfSome result (λ i. SidesBelow condition tess.now a.now s i) }
 {
-    for i in 0..side_count_of(tess, a, s) {
+    for i in 0..sides_of(tess, a, s) {
         if !holds(condition, tess, a, s, i) {
             return Some(i);
         }

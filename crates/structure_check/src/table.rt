@@ -1,14 +1,15 @@
 // The first condition: whatever a table names is there.
-ghost use Rattle.std.specs.Prelude.{◌≡◌, ◌<◌, ◌≤◌, ◌↔◌, ℕ, suc, length, IsTrue, OnOk, IfErr, All, ℤ, nat_abs};
+ghost use Rattle.std.specs.Prelude.{◌≡◌, ◌<◌, ◌≤◌, ◌↔◌, ℕ, suc, length, IsTrue, OnOk, IfErr};
 ghost use Rattle.tree_model.specs.Conditions.{HasLimits, HasRootState, HasOffsets, HasOuter, HasTables, HasTargets};
 ghost use Rattle.structure_check.specs.Broken.{IsFirstBroken, PartHolds, part_size};
 ghost use Rattle.tree_model.specs.Automata.{state_at};
-ghost use Rattle.structure_check.specs.Search.{PartsBelow, IsPartReady, part_number, HasTargetsAt};
+ghost use Rattle.structure_check.specs.Search.{PartsBelow, IsPartReady, part_number, AreSmall, HasTargetsAt};
 
 use rules_data::{Automaton, Rule};
 use tile_kinds::Tessellation;
 
 use crate::broken::Broken;
+use crate::reading::sides_of;
 
 /// A part of the first condition.
 #[derive(Clone, Copy, Debug, PartialEq, Eq)]
@@ -71,7 +72,7 @@ fn has_root_state(a: &Automaton, k: u8) -> bool
 
 /// Whether no offset is over 64 in absolute value.
 fn are_small(offsets: &[i8]) -> bool
-    ensures { IsTrue result ↔ All (λ h. nat_abs h ≤ 64) offsets.now }
+    ensures { IsTrue result ↔ AreSmall offsets.now }
 {
     for h in offsets {
         if *h < -64 || *h > 64 {
@@ -82,6 +83,7 @@ fn are_small(offsets: &[i8]) -> bool
 }
 
 /// Whether a corner type has 3 to 64 offsets, the first 0 and none over 64 in absolute value.
+#[tactic(auto, unfolding(tree_model::specs::Automata::offset, tree_model::specs::Automata::corner_valence))]
 fn has_offsets(a: &Automaton, g: u32) -> bool
     requires { g < length a.now.corners }
     ensures { IsTrue result ↔ HasOffsets a.now g }
@@ -100,6 +102,7 @@ fn has_outer(a: &Automaton, g: u32) -> bool
 }
 
 /// Whether the kind and the residue of a state are there, and a rule and a claim for each side.
+#[tactic(auto, unfolding(tree_model::specs::Automata::side_count))]
 fn has_tables(tess: &Tessellation, a: &Automaton, s: u32) -> bool
     requires { s < length a.now.states }
     ensures { IsTrue result ↔ HasTables tess.now a.now s }
@@ -136,7 +139,7 @@ fn has_targets(tess: &Tessellation, a: &Automaton, s: u32) -> bool
     requires tables { HasTables tess.now a.now s }
     ensures { IsTrue result ↔ HasTargets tess.now a.now s }
 {
-    for i in 0..tess.kind(a.state(s).kind).sides {
+    for i in 0..sides_of(tess, a, s) {
         if !has_targets_at(a, s, i) {
             return false;
         }
