@@ -6,7 +6,9 @@ use Rattle.tile_model.specs.Tessellations.{TileKind}
 use Rattle.tree_model.specs.Automata.{TreeAutomaton, side_count}
 use Rattle.tree_model.specs.Conditions.{IsClosedTable, IsAccepted, AtEverySide, HasLimits, HasTables, HasFirstPlace, HasLastPlace}
 use Rattle.structure_check.specs.Broken.{IsPlace, IsBefore, IsFirstBroken, Holds, PartHolds, part_size}
-use Rattle.structure_check.specs.Search.{HoldBelow, PartsBelow, StatesBelow, SideHolds, IsSideReady, side_number, CornerHolds, HasCorners, corner_number}
+use Rattle.structure_check.specs.Search.{HoldBelow, PartsBelow, StatesBelow, SideHolds, IsSideReady, side_number, IsPartReady, part_number, CornerHolds, HasCorners, corner_number}
+use Rattle.structure_check.specs.declared.table.TablePart.{TablePart}
+use Rattle.structure_check.specs.declared.table.TablePart.TheVariants.{Limits, Roots, Offsets, Outers, Sizes, Targets}
 use Rattle.structure_check.specs.declared.sides.SideCondition.{SideCondition}
 use Rattle.structure_check.specs.declared.sides.SideCondition.TheVariants.{Parents, ChildTypes, Valences, FirstPlaces, LastPlaces, OutersBefore, OutersBehind, ChildClaims}
 use Rattle.structure_check.specs.declared.corners.CornerCondition.{CornerCondition}
@@ -193,6 +195,23 @@ module _ (kinds : List TileKind) (a : TreeAutomaton) where
 
   at_corners : (c : CornerCondition) (n : ℕ) → corner_number c < n → HoldBelow kinds a n → (g : ℕ) → g < length a.corners → CornerHolds c a g
   at_corners c n less below = λ g corner. corner_holds c g (below (corner_number c) g 0 less (corner_place (corner_number c) g (corner_low c) (corner_high c) corner))
+
+  pub part_ready : (part : TablePart) → PartsBelow kinds a (part_number part) → IsPartReady part kinds a
+  unfolding PartHolds
+  part_ready Limits below = tt
+  part_ready Roots below = below 0 0 (omega arith) (omega arith)
+  part_ready Offsets below = below 0 0 (omega arith) (omega arith)
+  part_ready Outers below = below 0 0 (omega arith) (omega arith)
+  part_ready Sizes below = below 0 0 (omega arith) (omega arith)
+  part_ready Targets below = (below 0 0 (omega arith) (omega arith), λ s state. below 4 s (omega arith) state)
+
+  pub part_high : (part : TablePart) → part_number part ≤ 5
+  part_high Limits = omega arith
+  part_high Roots = omega arith
+  part_high Offsets = omega arith
+  part_high Outers = omega arith
+  part_high Sizes = omega arith
+  part_high Targets = omega arith
 
   pub side_ready : (c : SideCondition) → HoldBelow kinds a (side_number c) → IsSideReady c kinds a
   side_ready Parents below = tt

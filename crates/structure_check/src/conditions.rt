@@ -22,7 +22,8 @@ fn check_table(tess: &Tessellation, a: &Automaton) -> Result<(), Broken>
     check_part(TablePart::Offsets, tess, a)?;
     check_part(TablePart::Outers, tess, a)?;
     check_part(TablePart::Sizes, tess, a)?;
-    check_part(TablePart::Targets, tess, a)
+    check_part(TablePart::Targets, tess, a)?;
+    Ok(())
 }
 
 /// Looks for the first broken condition, and for its first place.
@@ -41,5 +42,6 @@ pub fn check_all(tess: &Tessellation, a: &Automaton) -> Result<(), Broken>
     check_sides(SideCondition::ChildClaims, tess, a)?;
     check_corners(CornerCondition::OneChange, a)?;
     check_corners(CornerCondition::SmallChange, a)?;
-    check_corners(CornerCondition::GreaterOuter, a)
+    check_corners(CornerCondition::GreaterOuter, a)?;
+    Ok(())
 }

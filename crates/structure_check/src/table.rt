@@ -63,11 +63,12 @@ fn has_limits(tess: &Tessellation, a: &Automaton) -> bool
 }
 
 /// Whether the root of kind `k` is a state.
-fn has_root_state(a: &Automaton, k: u8) -> bool
+#[tactic(auto, using(std::proofs::lemmas::List::get_or_default), unfolding(tree_model::specs::Automata::root_at))]
+fn has_root_state(a: &Automaton, k: u32) -> bool
     requires { k < length a.now.roots }
     ensures { IsTrue result ↔ HasRootState a.now k }
 {
-    (a.root(k) as usize) < a.states.len()
+    (a.roots[k as usize] as usize) < a.states.len()
 }
 
 /// Whether no offset is over 64 in absolute value.
@@ -148,6 +149,7 @@ fn has_targets(tess: &Tessellation, a: &Automaton, s: u32) -> bool
 }
 
 /// Whether a part holds at an index.
+#[tactic(auto, unfolding(crate::specs::Broken::PartHolds))]
 fn holds(part: TablePart, tess: &Tessellation, a: &Automaton, index: u32) -> bool
     requires ready { IsPartReady part tess.now a.now }
     requires index { index < part_size tess.now a.now (part_number part) }
@@ -155,7 +157,7 @@ fn holds(part: TablePart, tess: &Tessellation, a: &Automaton, index: u32) -> boo
 {
     match part {
         TablePart::Limits => has_limits(tess, a),
-        TablePart::Roots => has_root_state(a, index as u8),
+        TablePart::Roots => has_root_state(a, index),
         TablePart::Offsets => has_offsets(a, index),
         TablePart::Outers => has_outer(a, index),
         TablePart::Sizes => has_tables(tess, a, index),

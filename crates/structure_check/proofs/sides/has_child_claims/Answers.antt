@@ -1,0 +1,5 @@
+use Rattle.structure_check.proofs.Closed.{claim_known}
+use Rattle.structure_check.proofs.sides.has_child_claims.Goals as goal
+
+pub is_deeper-requires-then-is_further-2-clause-other : goal.is_deeper-requires-then-is_further-2-clause-other
+is_deeper-requires-then-is_further-2-clause-other c = rw c.claim-left.ensures (claim_known c.args.tess.now c.args.a.now c.requires.closed c.args.s c.args.i c.requires.state c.requires.side).place
