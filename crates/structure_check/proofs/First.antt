@@ -1,4 +1,5 @@
 -- Where all conditions hold no place is the first broken one, and there is one first broken place at most.
+use Rattle.std.proofs.lemmas.Bool.{cases_lt}
 use Rattle.std.proofs.Common.{◌≡◌, ℕ, suc, ◌<◌, ◌≤◌, ◌⊎◌, inl, inr, List, length, refl, sym, subst, arith}
 use Rattle.tile_model.specs.Tessellations.{TileKind}
 use Rattle.tree_model.specs.Automata.{TreeAutomaton}
@@ -39,3 +40,37 @@ module _ (kinds : List TileKind) (a : TreeAutomaton) where
 
   pub refutes : (c f s : ℕ) → IsFirstBroken kinds a c f s → IsAccepted kinds a → ⊥
   refutes c f s broken ok = broken.fails (all_hold ok c f s (omega (arith, broken.place.number.1)) broken.place)
+
+  -- no place of the condition that is read before the first broken one is another first broken one
+  none_before : (c f s f' s' : ℕ) → IsFirstBroken kinds a c f s → IsFirstBroken kinds a c f' s' → IsBefore c f s f' s' → ⊥
+  none_before c f s f' s' one other before = one.fails (other.places_before f s one.place before)
+
+  same_place : (c f s f' s' : ℕ) → IsFirstBroken kinds a c f s → IsFirstBroken kinds a c f' s' → (f ≡ f') × (s ≡ s')
+  same_place c f s f' s' one other =
+      let less : IsBefore c f s f' s' → ⊥ = none_before c f s f' s' one other in
+      let more : IsBefore c f' s' f s → ⊥ = none_before c f' s' f s other one in
+      let low : 1 ≤ c = one.place.number.0 in
+      elim (cases_lt c 2) [
+        | inl part ↦
+            let higher : ¬ (s < s') = λ h. less (record { part = λ _. inl h; other = λ two. absurd (omega arith) }) in
+            let lower : ¬ (s' < s) = λ h. more (record { part = λ _. inl h; other = λ two. absurd (omega arith) }) in
+            let same : s ≡ s' = omega arith in
+            let after : ¬ (f < f') = λ h. less (record { part = λ _. inr (same, h); other = λ two. absurd (omega arith) }) in
+            let before : ¬ (f' < f) = λ h. more (record { part = λ _. inr (sym same, h); other = λ two. absurd (omega arith) }) in
+            (omega arith, same)
+        | inr other_part ↦
+            let higher : ¬ (f < f') = λ h. less (record { part = λ e. absurd (omega arith); other = λ _. inl h }) in
+            let lower : ¬ (f' < f) = λ h. more (record { part = λ e. absurd (omega arith); other = λ _. inl h }) in
+            let same : f ≡ f' = omega arith in
+            let after : ¬ (s < s') = λ h. less (record { part = λ e. absurd (omega arith); other = λ _. inr (same, h) }) in
+            let before : ¬ (s' < s) = λ h. more (record { part = λ e. absurd (omega arith); other = λ _. inr (sym same, h) }) in
+            (same, omega arith)
+      ]
+
+  pub one_first : (c f s c' f' s' : ℕ) → IsFirstBroken kinds a c f s → IsFirstBroken kinds a c' f' s' → (c ≡ c') × (f ≡ f') × (s ≡ s')
+  one_first c f s c' f' s' one other =
+      let higher : ¬ (c < c') = λ h. one.fails (other.conditions_before c f s h one.place) in
+      let lower : ¬ (c' < c) = λ h. other.fails (one.conditions_before c' f' s' h other.place) in
+      let same : c ≡ c' = omega arith in
+      let places = same_place c f s f' s' one (subst (λ (x : ℕ). IsFirstBroken kinds a x f' s') (sym same) other) in
+      (same, places.0, places.1)
