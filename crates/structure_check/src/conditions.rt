@@ -4,13 +4,12 @@ ghost use Rattle.tree_model.specs.Conditions.{IsAccepted};
 ghost use Rattle.structure_check.specs.Broken.{IsFirstBroken};
 ghost use Rattle.structure_check.specs.Search.{HoldBelow};
 
-use rules_data::Automaton;
-use tile_kinds::Tessellation;
-
 use crate::broken::Broken;
 use crate::corners::{CornerCondition, check_corners};
 use crate::sides::{SideCondition, check_sides};
 use crate::table::{TablePart, check_part};
+use rules_data::Automaton;
+use tile_kinds::Tessellation;
 
 /// Looks for the first index at which a part of condition 1 fails.
 fn check_table(tess: &Tessellation, a: &Automaton) -> Result<(), Broken>

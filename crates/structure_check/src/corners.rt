@@ -6,9 +6,8 @@ ghost use Rattle.tree_model.specs.Conditions.{HasOneChange, HasSmallChange, HasG
 ghost use Rattle.structure_check.specs.Broken.{IsFirstBroken};
 ghost use Rattle.structure_check.specs.Search.{HoldBelow, HasCorners, CornerHolds, corner_number};
 
-use rules_data::Automaton;
-
 use crate::broken::Broken;
+use rules_data::Automaton;
 
 /// A condition that is read at each corner type.
 #[derive(Clone, Copy, Debug, PartialEq, Eq)]

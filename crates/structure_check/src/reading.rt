@@ -58,7 +58,11 @@ pub fn claim_before(tess: &Tessellation, a: &Automaton, s: u32, i: u8) -> Claim
     ensures value { result ≡ claim_at a.now s (previous (side_count tess.now a.now s) i) }
     ensures known { IsClaim a.now result }
 {
-    let before = if i == 0 { sides_of(tess, a, s) - 1 } else { i - 1 };
+    let before = if i == 0 {
+        sides_of(tess, a, s) - 1
+    } else {
+        i - 1
+    };
     a.claim(s, before)
 }
 

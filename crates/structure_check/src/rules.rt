@@ -4,13 +4,11 @@ ghost use Rattle.tree_model.specs.Conditions.{IsAccepted};
 ghost use Rattle.structure_check.specs.Broken.{IsFirstBroken};
 ghost use Rattle.structure_check.specs.Rules.{TreeRules, AreSound};
 
-use std::marker::Model;
-
-use rules_data::Automaton;
-use tile_kinds::Tessellation;
-
 use crate::broken::Broken;
 use crate::conditions::check_all;
+use rules_data::Automaton;
+use std::marker::Model;
+use tile_kinds::Tessellation;
 
 /// A tessellation and an automaton over it of which all twelve conditions hold.
 #[derive(Debug, Drop)]

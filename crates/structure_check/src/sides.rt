@@ -6,12 +6,11 @@ ghost use Rattle.tree_model.specs.Conditions.{IsClosedTable, AtEverySide, HasPar
 ghost use Rattle.structure_check.specs.Broken.{IsFirstBroken};
 ghost use Rattle.structure_check.specs.Search.{HoldBelow, IsSideReady, SideHolds, SidesBelow, side_number};
 
-use rules_data::{Automaton, Claim, Rule};
-use tile_kinds::Tessellation;
-
 use crate::broken::Broken;
 use crate::reading::{claim_before, is_deeper, side_behind, sides_of, type_of};
 use crate::roots::{is_root, is_root_of_its_kind};
+use rules_data::{Automaton, Claim, Rule};
+use tile_kinds::Tessellation;
 
 /// A condition that is read at each side or claim of each state.
 #[derive(Clone, Copy, Debug, PartialEq, Eq)]
@@ -130,7 +129,8 @@ fn has_outer_behind(tess: &Tessellation, a: &Automaton, s: u32, i: u8) -> bool
     requires side { i < side_count tess.now a.now s }
     ensures { IsTrue result ↔ HasOuterBehind tess.now a.now s i }
 {
-    a.rule(s, i) != Rule::Right || is_further(a.claim(s, i), a.outer(claim_before(tess, a, s, i).corner))
+    a.rule(s, i) != Rule::Right
+        || is_further(a.claim(s, i), a.outer(claim_before(tess, a, s, i).corner))
 }
 
 /// Whether child `c` across side `i` has the claims at both ends of the side, each seen from its own place, which lies one level deeper.
@@ -208,7 +208,11 @@ fn failing_side(condition: SideCondition, tess: &Tessellation, a: &Automaton, s:
 }
 
 /// Looks for the least state, and in it for the least side or claim, at which the condition fails.
-pub fn check_sides(condition: SideCondition, tess: &Tessellation, a: &Automaton) -> Result<(), Broken>
+pub fn check_sides(
+    condition: SideCondition,
+    tess: &Tessellation,
+    a: &Automaton,
+) -> Result<(), Broken>
     requires { HoldBelow tess.now a.now (side_number condition) }
     ensures ok { OnOk result (HoldBelow tess.now a.now (suc (side_number condition))) }
     ensures err { IfErr result (λ b. IsFirstBroken tess.now a.now b.condition b.first b.second) }

@@ -5,11 +5,10 @@ ghost use Rattle.structure_check.specs.Broken.{IsFirstBroken, PartHolds, part_si
 ghost use Rattle.tree_model.specs.Automata.{state_at};
 ghost use Rattle.structure_check.specs.Search.{PartsBelow, IsPartReady, part_number, AreSmall, HasTargetsAt};
 
-use rules_data::{Automaton, Rule};
-use tile_kinds::Tessellation;
-
 use crate::broken::Broken;
 use crate::reading::sides_of;
+use rules_data::{Automaton, Rule};
+use tile_kinds::Tessellation;
 
 /// A part of the first condition.
 #[derive(Clone, Copy, Debug, PartialEq, Eq)]
@@ -99,7 +98,8 @@ fn has_outer(a: &Automaton, g: u32) -> bool
     ensures { IsTrue result ↔ HasOuter a.now g }
 {
     let outer = a.outer(g);
-    (outer.corner as usize) < a.corners.len() && (outer.place as usize) + 1 < a.valence(outer.corner)
+    (outer.corner as usize) < a.corners.len()
+        && (outer.place as usize) + 1 < a.valence(outer.corner)
 }
 
 /// Whether the kind and the residue of a state are there, and a rule and a claim for each side.

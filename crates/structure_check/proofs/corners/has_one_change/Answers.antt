@@ -11,8 +11,8 @@ returns c =
     let one : FitsSigned w16 c.difference.result = search rules in
     let two : FitsSigned w16 c.difference-2.result = search rules in
     let outside : c.difference.result ≡ offset a (outer a g).corner (suc (outer a g).place) -ℤ offset a (outer a g).corner (outer a g).place
-      = rw (c.difference.ensures, add-one, c.outer-outer.ensures) in
+    = rw (c.difference.ensures, add-one, c.outer-outer.ensures) in
     let inside : c.difference-2.result ≡ offset a g (corner_valence a g - 1) -ℤ offset a g 0
-      = rw (c.difference-2.ensures, c.valence.ensures) in
+    = rw (c.difference-2.ensures, c.valence.ensures) in
     let same = same_bits _ _ one two in
     (λ t. sym outside ∙ (same.0 t ∙ inside), λ h. same.1 (outside ∙ (h ∙ sym inside)))

@@ -7,7 +7,7 @@ use Rattle.structure_check.proofs.reading.claim_before.Goals as goal
 pub returns-clause-known : goal.returns-clause-known
 returns-clause-known c =
     let within : c.if-i-eq0.before < side_count c.args.tess.now c.args.a.now c.args.s = elim c.if-i-eq0.branch [
-        | then-i-eq0 w ↦ omega arith
-        | else-i-eq0 w ↦ omega arith
-      ] in
+      | then-i-eq0 w ↦ omega arith
+      | else-i-eq0 w ↦ omega arith
+    ] in
     rw c.claim.ensures (claim_known c.args.tess.now c.args.a.now c.requires.closed c.args.s c.if-i-eq0.before c.requires.state within)

@@ -26,7 +26,7 @@ returns-in-Some-clause-err c =
 pub loop-s-preserved : goal.loop-s-preserved
 loop-s-preserved c = λ s i less side.
     below_more (λ (x : ℕ). (j : ℕ) → j < side_count c.args.tess.now c.args.a.now x → SideHolds c.args.condition c.args.tess.now c.args.a.now x j)
-      c.loop-s.s (λ x lower j within. c.loop-s.invariant x j lower within) c.in_default.ensures.none s less i side
+    c.loop-s.s (λ x lower j within. c.loop-s.invariant x j lower within) c.in_default.ensures.none s less i side
 
 pub returns-clause-ok : goal.returns-clause-ok
 returns-clause-ok c =

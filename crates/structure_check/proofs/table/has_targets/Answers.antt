@@ -10,5 +10,5 @@ loop-i-preserved c = below_more (HasTargetsAt c.args.a.now c.args.s) c.loop-i.i 
 pub returns : goal.returns
 returns c =
     let all : (i : ℕ) → i < side_count c.args.tess.now c.args.a.now c.args.s → HasTargetsAt c.args.a.now c.args.s i
-      = λ i less. c.loop-i.invariant i (omega arith) in
+    = λ i less. c.loop-i.invariant i (omega arith) in
     (λ _. record { child = λ i c' less e. (all i less).child c' e; claim = λ i less. ((all i less).corner, (all i less).place) }, λ _. refl)
