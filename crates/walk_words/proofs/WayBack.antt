@@ -1,6 +1,6 @@
 -- The opposite letters, in reverse order, are the way back.
 use Rattle.std.proofs.Common.{◌≡◌, List, [], ◌∷◌, ◌++◌, map, reverse, refl, sym, ap, ◌∙◌}
-use Rattle.std.proofs.lemmas.List.{map-append, reverse-append}
+use Rattle.std.proofs.lemmas.List.{reverse-append}
 use Rattle.tile_model.specs.declared.Letter.{Letter}
 use Rattle.tile_model.specs.Walks.{opposite, inverse}
 use Rattle.tile_model.proofs.Inverses.{inverse_cons}

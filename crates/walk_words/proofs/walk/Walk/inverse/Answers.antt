@@ -1,6 +1,5 @@
 -- The opposite letters are all written, and then reversed.
-use Rattle.std.proofs.Common.{◌≡◌, List, [], ◌++◌, reverse, ap, subst, sym, ◌∙◌}
-use Rattle.tile_model.specs.declared.Letter.{Letter}
+use Rattle.std.proofs.Common.{[], ◌++◌, reverse, ap, subst, sym, ◌∙◌}
 use Rattle.tile_model.specs.Walks.{opposite, inverse}
 use Rattle.tile_model.specs.Relation.{AreRelated}
 use Rattle.tile_model.proofs.Inverses.{inverse_cancels}
