@@ -67,7 +67,7 @@ pub HasRead-misfit : {A : Type 0} (Spells : Data → A → Type 0) (vs : List Va
 HasRead-misfit Spells vs found i v l is bad h = record { entry = view v; at = entry_at vs i v l is; bad = bad; before = h.before }
 
 -- an entry of what spells a list spells an element
-entry_spells : {A : Type 0} (Spells : Data → A → Type 0) (ds : Items) (xs : List A) (i : ℕ) (e : Data) → SpellEach Spells ds xs → get_item i ds ≡ Some e → (x : A) × Spells e x
+pub entry_spells : {A : Type 0} (Spells : Data → A → Type 0) (ds : Items) (xs : List A) (i : ℕ) (e : Data) → SpellEach Spells ds xs → get_item i ds ≡ Some e → (x : A) × Spells e x
 entry_spells Spells no_items xs i e h at = absurd (cc)
 entry_spells Spells (item d ds) [] i e h at = absurd h
 entry_spells Spells (item d ds) (x ∷ xs) zero e h at = (x, subst (λ u. Spells u x) (cc) h.0)
@@ -94,6 +94,6 @@ pair_second vs v x y e is =
 
 pub list_spells_none : {A : Type 0} (Spells : Data → A → Type 0) (name : List ℕ) (d : Data) (ds : Items) (i : ℕ) (xs : List A)
     → get name d ≡ Some (array ds) → IsFirstMisfit Spells ds i → ¬ SpellsMember (SpellsArray Spells) name d xs
-list_spells_none Spells name d ds i xs found bad (e, got, es, is, each) =
+list_spells_none Spells name d ds i xs found bad (e, got, (es, is, each)) =
     let same : ds ≡ es = cc in
     misfit_spells_none Spells ds i xs bad (subst (λ us. SpellEach Spells us xs) (sym same) each)

@@ -1,2 +1,4 @@
 -- Lemmas of this crate.
 pub mod Entries
+pub mod Failures
+pub mod Sizes

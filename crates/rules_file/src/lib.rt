@@ -3,5 +3,9 @@
 
 mod entry;
 mod fault;
+mod print;
+mod read;
 
 pub use fault::{Part, RulesFault};
+pub use print::print_rules;
+pub use read::read_rules;
