@@ -2,3 +2,4 @@
 pub mod Entries
 pub mod Failures
 pub mod Sizes
+pub mod Floats

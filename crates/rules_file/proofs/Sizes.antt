@@ -128,6 +128,10 @@ any_within : {A : Type 0} (o : Option A) → IsWithin (λ _. 0) 0 o
 any_within None = tt
 any_within (Some a) = omega arith
 
+wider : (o : Option Members) (m n : ℕ) → m ≤ n → IsWithin members_size m o → IsWithin members_size n o
+wider None m n l x = tt
+wider (Some a) m n l x = omega arith
+
 mutual
   json_size : (j : json.Json) → IsWithin size (length (json_tokens j)) (of_json j)
   json_size json.null = omega arith
@@ -135,7 +139,7 @@ mutual
   json_size (json.number s) = within_map (λ _. 0) size 0 1 read_data.number (λ a x. omega arith) (number_of s) (any_within _)
   json_size (json.string s) = omega arith
   json_size (json.array js) = within_map items_size size (length (items_tokens js)) _ array (λ a x. omega arith) _ (items_within js)
-  json_size (json.object ms) = within_map members_size size (length (members_tokens ms)) _ object (λ a x. omega arith) _ (members_within ms no_members 0 (omega arith))
+  json_size (json.object ms) = within_map members_size size (length (members_tokens ms)) _ object (λ a x. omega arith) _ (wider _ _ _ (omega arith) (members_within ms no_members 0 (omega arith)))
 
   items_within : (js : json.Items) → IsWithin items_size (length (items_tokens js)) (of_items js)
   items_within json.no_items = omega arith
@@ -149,10 +153,6 @@ mutual
       let long = length-append (json_tokens j) (members_tokens ms) in
       within_then size members_size (length (json_tokens j)) _ _
       (λ d x. wider _ _ _ (omega arith) (members_within ms (put name d found) (length (json_tokens j) + n) (omega (arith, put_size name d found)))) _ (json_size j)
-    where
-      wider : (o : Option Members) (m n : ℕ) → m ≤ n → IsWithin members_size m o → IsWithin members_size n o
-      wider None m n l x = tt
-      wider (Some a) m n l x = omega arith
 
 whole_within : (ts : List Token) (o : Option (json.Json × List Token)) → o ≡ json.value max_depth ts → IsWithin size (length ts) (option_and_then of_json (option_and_then (λ p. json.if_last p.0 p.1) o))
 whole_within ts None e = tt

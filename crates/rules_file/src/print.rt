@@ -1,7 +1,8 @@
 //! Printing the canonical text of a rules file.
-ghost use Rattle.std.specs.Prelude.{◌≡◌, IfOk};
+ghost use Rattle.std.specs.Prelude.{◌≡◌, ◌++◌, ◌∷◌, [], false, IfOk};
 ghost use Rattle.serde_json.specs.Data.{Data};
 ghost use Rattle.serde_json.specs.View.{view};
+ghost use Rattle.serde_json.specs.Written.{has_float, compact_text};
 ghost use Rattle.rules_file.specs.Spelling.{whole, offset_json, rule_json, pair_json, list_json, corner_json, state_json, automaton_json, rules_text};
 
 use rules_data::{Automaton, Claim, Corner, Rule, State};
@@ -14,6 +15,14 @@ pub fn print_rules(alloc: Global, a: &Automaton) -> Result<Vec<u8>, AllocError>
     ensures canonical { IfOk result (λ v. v.items ≡ rules_text a.now) }
 {
     let json = to_json(alloc, a)?;
+    line(alloc, &json)
+}
+
+/// The compact text of a value with no float, and a line feed.
+fn line(alloc: Global, json: &Value) -> Result<Vec<u8>, AllocError>
+    requires { has_float (view json.now) ≡ false }
+    ensures { IfOk result (λ v. v.items ≡ compact_text (view json.now) ++ 10 ∷ []) }
+{
     let mut bytes = json.to_string(alloc)?.into_bytes();
     bytes.push(b'\n')?;
     Ok(bytes)
