@@ -9,3 +9,6 @@ mod read;
 pub use fault::{Part, RulesFault};
 pub use print::print_rules;
 pub use read::read_rules;
+
+#[cfg(test)]
+mod tests;
