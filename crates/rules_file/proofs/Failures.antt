@@ -13,7 +13,7 @@ use Rattle.rules_file.specs.Faults.{IsNoObject, HasNoArray, HasBadEntry, FailsAt
 use Rattle.rules_file.proofs.Entries.{entry_spells}
 
 -- no part whose turn is before n fails
-pub Cleared : ℕ → Data → Type 0
+unfoldable pub Cleared : ℕ → Data → Type 0
 Cleared n d = (part : Part) (j : ℕ) → turn part < n → ¬ FailsAt part j d
 
 array_there : (name : List ℕ) (d : Data) (ds : Items) → get name d ≡ Some (array ds) → ¬ HasNoArray name d

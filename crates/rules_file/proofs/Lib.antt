@@ -3,3 +3,4 @@ pub mod Entries
 pub mod Failures
 pub mod Sizes
 pub mod Floats
+pub mod Unique

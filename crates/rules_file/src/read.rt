@@ -1,5 +1,5 @@
 //! Reading a rules file.
-ghost use Rattle.std.specs.Prelude.{◌≡◌, ◌-◌, ◌^◌, ◌<◌, ◌↔◌, ℕ, length, codes, Some, Err, IsTrue, IfOk, IfErr, MatchResult};
+ghost use Rattle.std.specs.Prelude.{◌≡◌, ◌-◌, ◌^◌, ◌<◌, ◌↔◌, ◌⊎◌, ℕ, length, codes, Some, Err, IsTrue, IfOk, IfErr, MatchResult};
 ghost use Rattle.tree_model.specs.Automata.{TreeAutomaton};
 ghost use Rattle.serde_json.specs.Data.{Data};
 ghost use Rattle.serde_json.specs.Find.{get};
@@ -19,9 +19,15 @@ use std::alloc::Global;
 pub fn read_rules(alloc: Global, bytes: &[u8]) -> Result<Automaton, RulesFault>
     requires { length bytes.now < 2 ^ 32 - 1 }
     ensures ok { IfOk result (λ a. IsRulesFile bytes.now a) }
+    ensures complete { (a : TreeAutomaton) → IsRulesFile bytes.now a
+        → MatchResult result (λ b. b ≡ a) (λ e. e ≡ RulesFault.Memory) }
     ensures syntax { result ≡ Err RulesFault.Syntax → (d : Data) → ¬ IsTextOf bytes.now d }
+    ensures no_text { ((d : Data) → ¬ IsTextOf bytes.now d)
+        → (result ≡ Err RulesFault.Syntax) ⊎ (result ≡ Err RulesFault.Memory) }
     ensures shape { (part : Part) (i : ℕ) → result ≡ Err (RulesFault.Shape part i)
         → (d : Data) × IsTextOf bytes.now d × IsFirstFault d part i }
+    ensures misshapen { (d : Data) (part : Part) (i : ℕ) → IsTextOf bytes.now d → IsFirstFault d part i
+        → (result ≡ Err (RulesFault.Shape part i)) ⊎ (result ≡ Err RulesFault.Memory) }
 {
     match Value::from_slice(alloc, bytes) {
         Ok(json) => read_tables(alloc, &json),
