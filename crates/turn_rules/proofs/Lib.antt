@@ -3,3 +3,7 @@ pub mod Ways
 pub mod Track
 pub mod Weights
 pub mod Ends
+pub mod Runs
+pub mod Bounds
+pub mod Across
+pub mod Types

@@ -1,5 +1,5 @@
 -- The walk along a contour with one counter of open brackets.
-use Rattle.std.specs.Prelude.{◌≡◌, ℕ, zero, suc, ◌+◌, ◌*◌, ◌≤◌}
+use Rattle.std.specs.Prelude.{◌≡◌, ℕ, zero, suc, ◌+◌, ◌*◌, ◌≤◌, Bool, false, nat_eq}
 use Rattle.tree_model.specs.Contours.{Mark, Tree, Opens, Closes}
 
 -- At z, about to turn, with c brackets open, the walk stops at y after n moves and one turn. Its counter is never above most.
@@ -26,3 +26,10 @@ left_after P turned hopped f Closes (suc (suc e)) = suc (f turned (suc e))
 abbrev pub moves_left : (P : Type 0) (turn hop : P → P) (mark : P → Mark) → ℕ → P → ℕ → ℕ
 moves_left P turn hop mark zero z c = 0
 moves_left P turn hop mark (suc f) z c = left_after P (turn z) (hop (turn z)) (moves_left P turn hop mark f) (mark (turn z)) c
+
+-- One move, from z with c brackets open to y with e brackets open: it turns, and goes across a side of the tree. It is the last one where
+-- the turn closes the last bracket.
+pub record Moved (P : Type 0) (turn hop : P → P) (mark : P → Mark) (z : P) (c : ℕ) (done : Bool) (y : P) (e : ℕ) : Type 0 where
+  pub hopped : mark (turn z) ≡ Tree → (done ≡ false) × (y ≡ hop (turn z)) × (e ≡ c)
+  pub opened : mark (turn z) ≡ Opens → (done ≡ false) × (y ≡ turn z) × (e ≡ suc c)
+  pub closed : mark (turn z) ≡ Closes → (done ≡ nat_eq e 0) × (y ≡ turn z) × (suc e ≡ c)
