@@ -1,1 +1,5 @@
 pub mod WorkedValues
+pub mod Types
+pub mod Relations
+pub mod Inverses
+pub mod SameTile
