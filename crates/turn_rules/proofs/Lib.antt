@@ -7,3 +7,4 @@ pub mod Runs
 pub mod Bounds
 pub mod Across
 pub mod Types
+pub mod TreePlane

@@ -1,5 +1,5 @@
 -- The positions of the tree of accepted rules are a plane. This is the one place where the conditions are read for matching and crossing.
-use Rattle.std.proofs.Common.{◌≡◌, ℕ, suc, ◌+◌, ◌-◌, ◌<◌, ◌≤◌, inl, inr, List, length, refl, sym, ap, ◌∙◌, subst, arith, ℤ, pos, ◌+ℤ◌, ◌-ℤ◌}
+use Rattle.std.proofs.Common.{◌≡◌, ℕ, zero, suc, ◌+◌, ◌-◌, ◌<◌, ◌≤◌, inl, inr, List, length, refl, sym, ap, ◌∙◌, subst, arith, ℤ, pos, ◌+ℤ◌, ◌-ℤ◌}
 use Rattle.std.proofs.lemmas.Int.{ints}
 use Rattle.tile_model.specs.Tessellations.{TileKind, left, cross, valence, around, around_times}
 use Rattle.tile_model.specs.Validity.{IsValid}
@@ -136,6 +136,9 @@ module _ (kinds : List TileKind) (a : TreeAutomaton) (k : ℕ) (valid : IsValid 
       let s : suc (C p).place ≡ corner_valence a (C p).corner = omega (arith, place_known p h, e) in
       ap mark_of_rule ((ok.c6 (S p) p.side (known_state p h) h.side).0 s)
 
+  change_of : (g : ℕ) → g < length a.corners → offset a (outer a g).corner (suc (outer a g).place) -ℤ offset a (outer a g).corner (outer a g).place ≡ offset a g (corner_valence a g - 1)
+  change_of g h = change_is (offset a (outer a g).corner (outer a g).place) (offset a (outer a g).corner (suc (outer a g).place)) (offset a g 0) (offset a g (corner_valence a g - 1)) (ok.c10 g h) (ok.c1.offsets g h).first
+
   pub plane : IsPlane Position There (tree_land kinds a k)
   plane = record {
     right_left = right_left kinds a k;
@@ -160,14 +163,14 @@ module _ (kinds : List TileKind) (a : TreeAutomaton) (k : ℕ) (valid : IsValid 
     behind_place = λ p h c. ap (λ c. c.place) (behind_claim p h c);
     left_depth = λ p h. refl;
     first_offset = λ p h. (ok.c1.offsets (C p).corner (corner_known p h)).first;
-    one_change = λ p h. change_is _ _ _ _ (ok.c10 (C p).corner (corner_known p h)) (ok.c1.offsets (C p).corner (corner_known p h)).first;
+    one_change = λ p h. change_of (C p).corner (corner_known p h);
     falls_little = λ p h. (ok.c11 (C p).corner (corner_known p h)).0;
     rises_little = λ p h. (ok.c11 (C p).corner (corner_known p h)).1;
     ranked = λ p h. ok.c12 (C p).corner (corner_known p h);
   }
 
   iterated_around : (n : ℕ) (d : ℕ × ℕ) → iterated (ℕ × ℕ) (λ t. cross kinds (left kinds t)) n d ≡ around_times kinds n d
-  iterated_around 0 d = refl
+  iterated_around zero d = refl
   iterated_around (suc n) d = ap (around kinds) (iterated_around n d)
 
   -- the valence of a side's type is the number of tiles round its corner
