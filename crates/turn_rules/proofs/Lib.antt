@@ -8,3 +8,5 @@ pub mod Bounds
 pub mod Across
 pub mod Types
 pub mod TreePlane
+pub mod Closure
+pub mod Contour

@@ -68,7 +68,7 @@ module _ (kinds : List TileKind) (a : TreeAutomaton) (k : ℕ) (valid : IsValid 
   beside : (p : Position) → There p → next (side_count kinds a (S p)) p.side < side_count kinds a (S p)
   beside p h = next_below (side_count kinds a (S p)) p.side h.side
 
-  corner_known : (p : Position) → There p → (C p).corner < length a.corners
+  pub corner_known : (p : Position) → There p → (C p).corner < length a.corners
   corner_known p h = ((ok.c1.targets (S p) (known_state p h)).claim p.side h.side).0
 
   place_known : (p : Position) → There p → (C p).place < corner_valence a (C p).corner
