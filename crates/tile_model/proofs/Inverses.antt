@@ -1,5 +1,5 @@
 -- The way back: it undoes a walk, common beginnings cancel, and how often walks cross.
-use Rattle.std.proofs.Common.{◌≡◌, ℕ, zero, suc, ◌+◌, List, [], ◌∷◌, ◌++◌, map, reverse, replicate, refl, sym, ap, ap₂, ◌∙◌, subst, arith, zero-add, add_assoc, add_comm, append_assoc, append-nil}
+use Rattle.std.proofs.Common.{◌≡◌, ℕ, zero, suc, ◌+◌, List, [], ◌∷◌, ◌++◌, map, reverse, replicate, refl, sym, ap, ap₂, ◌∙◌, subst, arith, zero-add, add_assoc, append_assoc}
 use Rattle.std.proofs.lemmas.List.{map-append, reverse-append}
 use Rattle.tile_model.specs.declared.Letter.{Letter}
 use Rattle.tile_model.specs.declared.Letter.TheVariants.{L, R, X}
@@ -7,7 +7,7 @@ use Rattle.tile_model.specs.Tessellations.{TileKind}
 use Rattle.tile_model.specs.Validity.{IsValid}
 use Rattle.tile_model.specs.Walks.{step, type_of, crossings, opposite, inverse}
 use Rattle.tile_model.specs.Relation.{there_and_back, left_and_right, right_and_left, AreRelated}
-use Rattle.tile_model.proofs.Types.{type_append, step_back}
+use Rattle.tile_model.proofs.Types.{type_append}
 use Rattle.tile_model.proofs.Relations.{related_equal, related_same, related_back, related_on, related_behind, related_before, loop_empty, related_type}
 
 pub opposite_opposite : (x : Letter) → opposite (opposite x) ≡ x

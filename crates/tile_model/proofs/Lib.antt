@@ -3,3 +3,4 @@ pub mod Types
 pub mod Relations
 pub mod Inverses
 pub mod SameTile
+pub mod Distances

@@ -1,5 +1,5 @@
 -- Related walks: an equivalence that is kept behind and before a walk, with one type, and the way to prove what holds of all of them.
-use Rattle.std.proofs.Common.{◌≡◌, ℕ, ◌+◌, Bool, true, false, not, List, [], ◌∷◌, ◌++◌, length, refl, sym, ap, ◌∙◌, subst, arith, append_assoc, append-nil, length-append}
+use Rattle.std.proofs.Common.{◌≡◌, ℕ, ◌+◌, true, not, List, [], ◌∷◌, ◌++◌, length, refl, sym, ap, ◌∙◌, subst, arith, append_assoc, append-nil, length-append}
 use Rattle.tile_model.specs.declared.Letter.{Letter}
 use Rattle.tile_model.specs.Tessellations.{TileKind}
 use Rattle.tile_model.specs.Validity.{IsValid}
@@ -127,7 +127,7 @@ module _ (kinds : List TileKind) (valid : IsValid kinds) where
         turns = λ u w e. sym e;
         joins = λ u v w e f. e ∙ f;
         inserted = λ before behind j loop is.
-          let t = type_of kinds d before in
-          type_append kinds d before behind ∙ ap (λ e. type_of kinds e behind) (sym (loop_type kinds valid t is)) ∙ sym (type_append kinds t loop behind) ∙ sym (type_append kinds d before (loop ++ behind));
+            let t = type_of kinds d before in
+            type_append kinds d before behind ∙ ap (λ e. type_of kinds e behind) (sym (loop_type kinds valid t is)) ∙ sym (type_append kinds t loop behind) ∙ sym (type_append kinds d before (loop ++ behind));
       })
       r

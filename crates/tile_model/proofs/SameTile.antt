@@ -1,13 +1,13 @@
 -- Walks at the same tile: an equivalence, kept before a walk; there is a way from each tile to each.
-use Rattle.std.proofs.Common.{◌≡◌, ℕ, zero, suc, ◌+◌, ◌-◌, ◌<◌, ◌≤◌, ◌⊎◌, inl, inr, List, [], ◌++◌, replicate, refl, sym, ap, ◌∙◌, subst, arith, append_assoc, append-nil, le_antisymm}
+use Rattle.std.proofs.Common.{◌≡◌, ℕ, zero, suc, ◌+◌, ◌-◌, ◌<◌, ◌≤◌, ◌⊎◌, inl, inr, List, [], ◌++◌, replicate, sym, ap, ◌∙◌, subst, arith, append_assoc, append-nil}
 use Rattle.std.proofs.lemmas.Bool.{cases_lt}
 use Rattle.std.proofs.lemmas.List.{replicate-append-replicate}
 use Rattle.tile_model.specs.declared.Letter.{Letter}
 use Rattle.tile_model.specs.declared.Letter.TheVariants.{L}
 use Rattle.tile_model.specs.Tessellations.{TileKind, IsType, sides}
 use Rattle.tile_model.specs.Validity.{IsValid}
-use Rattle.tile_model.specs.Walks.{type_of, crossings, inverse}
-use Rattle.tile_model.specs.Relation.{full_turn, AreRelated, AreAtSameTile, IsDistance}
+use Rattle.tile_model.specs.Walks.{type_of, inverse}
+use Rattle.tile_model.specs.Relation.{full_turn, AreRelated, AreAtSameTile}
 use Rattle.tile_model.proofs.Types.{type_append, sides_lefts, walk_type}
 use Rattle.tile_model.proofs.Relations.{related_equal, related_same, related_back, related_on, related_behind, related_before, related_loop, related_type}
 use Rattle.tile_model.proofs.Inverses.{there_back_on, related_cancel}
@@ -106,10 +106,3 @@ module _ (kinds : List TileKind) (valid : IsValid kinds) where
         fewer = subst (λ t. same.turns < sides kinds t) (type_append kinds d z u) same.fewer;
         related = related_cancel kinds valid d z (related_on kinds (related_equal kinds (sym (append_assoc z u (replicate same.turns L)))) same.related);
       }
-
--- two walks have one distance
-pub one_distance : (kinds : List TileKind) (d : ℕ × ℕ) (u w : List Letter) (m n : ℕ) → IsDistance kinds d u w m → IsDistance kinds d u w n → m ≡ n
-one_distance kinds d u w m n first second =
-    let below : m ≤ n = subst (λ c. m ≤ c) second.attained.1 (first.least second.attained.0 second.attained.2) in
-    let above : n ≤ m = subst (λ c. n ≤ c) first.attained.1 (second.least first.attained.0 first.attained.2) in
-    le_antisymm below above

@@ -1,5 +1,5 @@
 -- Types and the moves between them: their plain values, that they undo each other, and where walks and loops lead.
-use Rattle.std.proofs.Common.{◌≡◌, ℕ, zero, suc, ◌+◌, ◌-◌, ◌*◌, ◌/◌, ◌%◌, ◌<◌, ◌≤◌, Bool, true, false, cond, List, [], ◌∷◌, ◌++◌, length, replicate, slice_index_or, nat_lt, ◌&&◌, refl, sym, ap, ap₂, ◌∙◌, subst, arith, add-zero, mod-lt, mod-eq_of_lt, lt-ltb, ltb-true}
+use Rattle.std.proofs.Common.{◌≡◌, ℕ, zero, suc, ◌+◌, ◌-◌, ◌%◌, ◌<◌, ◌≤◌, Bool, true, false, cond, List, [], ◌∷◌, ◌++◌, length, replicate, slice_index_or, nat_lt, ◌&&◌, refl, sym, ap, ap₂, ◌∙◌, subst, arith, add-zero, mod-lt, mod-eq_of_lt, lt-ltb, ltb-true}
 use Rattle.std.proofs.Math.Nat.{mod-add-mod, add-mod_right, add-mod-mod}
 use Rattle.std.proofs.lemmas.Bool.{and_parts}
 use Rattle.tile_model.specs.declared.Letter.{Letter}

@@ -1,11 +1,10 @@
 -- Values that the checker computes, of the heptagons and hexagons that lie three round each corner: they show that the definitions
 -- mean what they say.
-use Rattle.std.proofs.Common.{◌≡◌, ℕ, List, [], ◌∷◌, refl, true, false}
-use Rattle.tile_model.specs.declared.Letter.{Letter}
+use Rattle.std.proofs.Common.{◌≡◌, List, [], ◌∷◌, refl, true, false}
 use Rattle.tile_model.specs.declared.Letter.TheVariants.{L, R, X}
-use Rattle.tile_model.specs.Tessellations.{TileKind, around_times, valence}
-use Rattle.tile_model.specs.Walks.{type_of, crossings, inverse}
-use Rattle.tile_model.specs.Relation.{IsLoop, round_corner, Change, Changes, inserts, deletes, AreRelated}
+use Rattle.tile_model.specs.Tessellations.{TileKind}
+use Rattle.tile_model.specs.Walks.{type_of, inverse}
+use Rattle.tile_model.specs.Relation.{round_corner, Changes, inserts, deletes, AreRelated}
 
 abbrev tiling : List TileKind
 tiling = record { sides = 7; repeat = 1; partner = (1, 0) ∷ []; valence = 3 ∷ [] } ∷ record { sides = 6; repeat = 2; partner = (0, 0) ∷ (1, 1) ∷ []; valence = 3 ∷ 3 ∷ [] } ∷ []
