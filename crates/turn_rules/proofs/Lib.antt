@@ -10,3 +10,5 @@ pub mod Types
 pub mod TreePlane
 pub mod Closure
 pub mod Contour
+pub mod Walking
+pub mod Derived
