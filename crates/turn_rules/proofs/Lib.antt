@@ -12,3 +12,4 @@ pub mod Closure
 pub mod Contour
 pub mod Walking
 pub mod Derived
+pub mod Words
