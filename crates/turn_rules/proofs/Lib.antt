@@ -13,3 +13,5 @@ pub mod Contour
 pub mod Walking
 pub mod Derived
 pub mod Words
+pub mod Places
+pub mod Levels
