@@ -120,7 +120,7 @@ module _ (P : Type 0) (There : P → Type 0) (land : Land P) (plane : IsPlane P 
   weighs e z = land.scale * e + land.rank (land.corner z)
 
   -- the entered offset, from the outer corner's side
-  ranked_at : (z : P) (g t : ℕ) → There z → land.outer (land.corner z) ≡ g → land.entry (land.corner z) ≡ t → (pos (land.rank (land.corner z)) +ℤ (pos land.scale *ℤ land.offset g t)) <ℤ pos (land.rank g)
+  pub ranked_at : (z : P) (g t : ℕ) → There z → land.outer (land.corner z) ≡ g → land.entry (land.corner z) ≡ t → (pos (land.rank (land.corner z)) +ℤ (pos land.scale *ℤ land.offset g t)) <ℤ pos (land.rank g)
   ranked_at z g t there e f =
       let n = land.corner z in
       let r = subst (λ q. (pos (land.rank n) +ℤ (pos land.scale *ℤ land.offset q (land.entry n))) <ℤ pos (land.rank q)) e (plane.ranked z there) in

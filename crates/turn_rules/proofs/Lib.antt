@@ -15,3 +15,5 @@ pub mod Derived
 pub mod Words
 pub mod Places
 pub mod Levels
+pub mod Falls
+pub mod Together

@@ -1,3 +1,4 @@
 pub mod Plane
 pub mod Machine
 pub mod Directions
+pub mod Laws
