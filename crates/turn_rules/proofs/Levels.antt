@@ -1,6 +1,6 @@
 -- The length of the name of a walk's place is the walk's distance from the root, and the tree rooted at the kind of the first tile tells
 -- the distance of any two tiles.
-use Rattle.std.proofs.Common.{◌≡◌, ℕ, zero, suc, ◌+◌, ◌<◌, ◌≤◌, ◌%◌, inl, inr, List, [], ◌∷◌, ◌++◌, length, replicate, refl, sym, ap, ◌∙◌, subst, arith, append_assoc, append-nil, mod-eq_of_lt, zero-add}
+use Rattle.std.proofs.Common.{◌≡◌, ℕ, suc, ◌+◌, ◌<◌, ◌≤◌, ◌%◌, inl, inr, List, [], ◌∷◌, ◌++◌, length, replicate, refl, sym, ap, ◌∙◌, subst, arith, append_assoc, mod-eq_of_lt, zero-add}
 use Rattle.tile_model.specs.declared.Letter.{Letter}
 use Rattle.tile_model.specs.declared.Letter.TheVariants.{L, R, X}
 use Rattle.tile_model.specs.Tessellations.{TileKind, kind_at, IsType}
@@ -55,9 +55,9 @@ module _ (kinds : List TileKind) (a : TreeAutomaton) (k : ℕ) (valid : IsValid 
       record {
         attained = (position_word p, crossings_position p, (places_same_tile kinds a k valid ok known (position_word p) u p p (leads_place kinds a k valid ok known (position_word p) p w) h).0 refl);
         least = λ z s.
-          let (q, is, f) = one_place kinds a k valid ok known z in
-          let e = (places_same_tile kinds a k valid ok known z u q p is h).1 s in
-          omega (arith, ap length e, leads_near z root q at_root f);
+            let (q, is, f) = one_place kinds a k valid ok known z in
+            let e = (places_same_tile kinds a k valid ok known z u q p is h).1 s in
+            omega (arith, ap length e, leads_near z root q at_root f);
       }
 
 module _ (kinds : List TileKind) (a : TreeAutomaton) (valid : IsValid kinds) (ok : IsAccepted kinds a) where
@@ -106,8 +106,8 @@ module _ (kinds : List TileKind) (a : TreeAutomaton) (valid : IsValid kinds) (ok
       record {
         attained = (z, n, related_same_tile kinds valid (k, 0) (start_type k known) (rerooted_back k known u w p h));
         least = λ y s.
-          let turns : List Letter = replicate s.turns L in
-          let r = related_on kinds (related_equal kinds (sym (append_assoc u y turns))) s.related in
-          let m = rerooted_least k known u w (y ++ turns) p h r in
-          omega (arith, m, crossings_append y turns, crossings_lefts s.turns);
+            let turns : List Letter = replicate s.turns L in
+            let r = related_on kinds (related_equal kinds (sym (append_assoc u y turns))) s.related in
+            let m = rerooted_least k known u w (y ++ turns) p h r in
+            omega (arith, m, crossings_append y turns, crossings_lefts s.turns);
       }
