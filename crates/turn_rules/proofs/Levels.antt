@@ -23,6 +23,10 @@ use Rattle.turn_rules.proofs.Walking.{moves_position}
 use Rattle.turn_rules.proofs.Words.{root_position, word_leads, crossings_position}
 use Rattle.turn_rules.proofs.Places.{leads_place, one_place, places_related, places_same_tile}
 
+-- what is walked in the tree of the first tile's kind, for the way from u, of type d, to w
+abbrev pub rerooted : ℕ × ℕ → List Letter → List Letter → List Letter
+rerooted d u w = replicate d.1 L ++ (inverse u ++ w)
+
 module _ (kinds : List TileKind) (a : TreeAutomaton) (k : ℕ) (valid : IsValid kinds) (ok : IsAccepted kinds a) (known : k < length kinds) where
   -- a crossing changes the depth by one at most
   pub hop_near : (p : Position) → IsPosition kinds a k p → mark kinds a k p ≡ Tree → length (hop kinds a k p).name ≤ suc (length p.name)
@@ -61,7 +65,7 @@ module _ (kinds : List TileKind) (a : TreeAutomaton) (k : ℕ) (valid : IsValid 
       }
 
 module _ (kinds : List TileKind) (a : TreeAutomaton) (valid : IsValid kinds) (ok : IsAccepted kinds a) where
-  start_type : (k : ℕ) → k < length kinds → IsType kinds (k, 0)
+  pub start_type : (k : ℕ) → k < length kinds → IsType kinds (k, 0)
   start_type k h = (h, (valid.repeat k h).positive)
 
   -- any type is reached from side 0 of its kind by turns
@@ -69,12 +73,8 @@ module _ (kinds : List TileKind) (a : TreeAutomaton) (valid : IsValid kinds) (ok
   turns_reach d h =
       type_lefts kinds valid d.1 (d.0, 0) (start_type d.0 h.0) ∙ ap (λ s. (d.0, s)) (ap (λ n. n % (kind_at kinds d.0).repeat) (zero-add d.1) ∙ mod-eq_of_lt h.1)
 
-  -- what is walked in the tree of the first tile's kind, for the way from u, of type d, to w
-  abbrev pub rerooted : ℕ × ℕ → List Letter → List Letter → List Letter
-  rerooted d u w = replicate d.1 L ++ (inverse u ++ w)
-
   -- The walk from the tile of u that turns back to side 0 and follows the word of the place leads to the tile of w.
-  rerooted_back : (k : ℕ) → k < length kinds → (u w : List Letter) (p : Position) → IsPlace kinds a (type_of kinds (k, 0) u).0 (rerooted (type_of kinds (k, 0) u) u w) p → AreRelated kinds (k, 0) (u ++ (inverse (replicate (type_of kinds (k, 0) u).1 L) ++ position_word p)) w
+  pub rerooted_back : (k : ℕ) → k < length kinds → (u w : List Letter) (p : Position) → IsPlace kinds a (type_of kinds (k, 0) u).0 (rerooted (type_of kinds (k, 0) u) u w) p → AreRelated kinds (k, 0) (u ++ (inverse (replicate (type_of kinds (k, 0) u).1 L) ++ position_word p)) w
   rerooted_back k known u w p h =
       let e = type_of kinds (k, 0) u in
       let l : List Letter = replicate e.1 L in

@@ -17,3 +17,5 @@ pub mod Places
 pub mod Levels
 pub mod Falls
 pub mod Together
+pub mod Shortest
+pub mod RingTiles
