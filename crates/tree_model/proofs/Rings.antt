@@ -1,6 +1,6 @@
 -- Rings of names: the names below a state of each length, in order, as one list; and a ring is one list alone.
 use Rattle.std.proofs.lemmas.Bool.{cases_eq}
-use Rattle.std.proofs.Common.{◌≡◌, ◌≢◌, ℕ, zero, suc, ◌+◌, ◌<◌, ◌≤◌, ◌⊎◌, ◌↔◌, inl, inr, ⊎_elim, List, [], ◌∷◌, ◌++◌, length, map, refl, sym, ap, ap₂, ◌∙◌, subst, arith, length-append}
+use Rattle.std.proofs.Common.{◌≡◌, ℕ, zero, suc, ◌+◌, ◌<◌, ◌≤◌, ◌⊎◌, ◌↔◌, inl, inr, ⊎_elim, List, [], ◌∷◌, ◌++◌, length, map, refl, sym, ap, ap₂, ◌∙◌, subst, arith, length-append}
 use Rattle.std.specs.Prelude.{All, AllPairs, Contains}
 use Rattle.std.proofs.lemmas.List.{length-map}
 use Rattle.std.proofs.lemmas.List.Kept.{AllPairs-cons}
@@ -9,7 +9,7 @@ use Rattle.tile_model.specs.Tessellations.{TileKind}
 use Rattle.tree_model.specs.declared.Rule.{Rule}
 use Rattle.tree_model.specs.declared.Rule.TheVariants.{Parent, Child, Left, Right}
 use Rattle.tree_model.specs.Automata.{TreeAutomaton, rule_at, root_at, side_count}
-use Rattle.tree_model.specs.Names.{child_of, IsNameBelow, IsName, IsBefore, shorter, smaller, later, IsRing}
+use Rattle.tree_model.specs.Names.{child_of, IsNameBelow, IsBefore, shorter, smaller, later, IsRing}
 
 -- lists, their members and their order
 module _ {A : Type 0} where
@@ -168,9 +168,9 @@ module _ (f : ℕ → List (List ℕ)) where
       (ordered_map (λ m. i ∷ m) IsBefore IsBefore (λ x y b. later i x y b) (f i) (each i))
       (behind_ordered each n (suc i))
       (λ x y c e.
-        let (t, u, p) = map_member (λ m. i ∷ m) (f i) x c in
-        let r = behind_is n (suc i) y e in
-        subst (λ v. IsBefore v y) p (subst (λ v. IsBefore (i ∷ t) v) (sym r.is) (smaller i r.side t r.rest (omega (arith, r.from)))))
+      let (t, u, p) = map_member (λ m. i ∷ m) (f i) x c in
+      let r = behind_is n (suc i) y e in
+      subst (λ v. IsBefore v y) p (subst (λ v. IsBefore (i ∷ t) v) (sym r.is) (smaller i r.side t r.rest (omega (arith, r.from)))))
 
 module _ (kinds : List TileKind) (a : TreeAutomaton) where
   rule_ordered : (d : ℕ) → ((s : ℕ) → AllPairs IsBefore (names_below kinds a d s)) → (r : Rule) → AllPairs IsBefore (behind_rule (names_below kinds a d) r)
