@@ -76,6 +76,17 @@ module _ (kinds : List TileKind) (valid : IsValid kinds) where
     pub distance_to : (u v w : List Letter) (n : ℕ) → AreAtSameTile kinds d v w → IsDistance kinds d u v n → IsDistance kinds d u w n
     distance_to u v w n same = same_ways kinds d d u v u w n (λ m way. way_to u v w m same way) (λ m way. way_to u w v m (same_tile_back kinds valid d is_type same) way)
 
+    -- seen from where u leads: the way back along u, and then w
+    pub distance_home : (u w : List Letter) (n : ℕ) → IsDistance kinds d u w n → IsDistance kinds (type_of kinds d u) [] (inverse u ++ w) n
+    distance_home u w n distance =
+        let same : AreAtSameTile kinds d w (u ++ (inverse u ++ w)) = related_same_tile kinds valid d is_type (related_back kinds (there_back_on kinds d u w)) in
+        distance_cancel d u [] (inverse u ++ w) n (subst (λ v. IsDistance kinds d v (u ++ (inverse u ++ w)) n) (sym (append-nil u)) (distance_to u w (u ++ (inverse u ++ w)) n same distance))
+
+    pub distance_away : (u w : List Letter) (n : ℕ) → IsDistance kinds (type_of kinds d u) [] (inverse u ++ w) n → IsDistance kinds d u w n
+    distance_away u w n distance =
+        let same : AreAtSameTile kinds d (u ++ (inverse u ++ w)) w = related_same_tile kinds valid d is_type (there_back_on kinds d u w) in
+        distance_to u (u ++ (inverse u ++ w)) w n same (subst (λ v. IsDistance kinds d v (u ++ (inverse u ++ w)) n) (append-nil u) (distance_before d u [] (inverse u ++ w) n distance))
+
     -- the same both ways
     pub distance_back : (u w : List Letter) (n : ℕ) → IsDistance kinds d u w n → IsDistance kinds d w u n
     distance_back u w n = same_ways kinds d d u w w u n (way_back u w) (way_back w u)

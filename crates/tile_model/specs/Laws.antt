@@ -112,3 +112,7 @@ Triangle = (kinds : List TileKind) → IsValid kinds → (d : ℕ × ℕ) → Is
 -- what two walks have in common at their beginning does not count
 abbrev pub DistanceBehind : Type 0
 DistanceBehind = (kinds : List TileKind) → IsValid kinds → (d : ℕ × ℕ) (u w z : List Letter) (n : ℕ) → IsDistance kinds (type_of kinds d z) u w n ↔ IsDistance kinds d (z ++ u) (z ++ w) n
+
+-- the distance from u to w is that, at the type where u leads, from the empty walk to the way back along u followed by w
+abbrev pub DistanceHome : Type 0
+DistanceHome = (kinds : List TileKind) → IsValid kinds → (d : ℕ × ℕ) → IsType kinds d → (u w : List Letter) (n : ℕ) → IsDistance kinds d u w n ↔ IsDistance kinds (type_of kinds d u) [] (inverse u ++ w) n

@@ -4,7 +4,7 @@ ghost use Rattle.tile_model.specs.Laws.{MovesUndo, WalksKeepTypes, TurnsAdd, Loo
 ghost use Rattle.tile_model.specs.Laws.{RelatedIsEquivalence, RelatedBehind, RelatedBefore, BeginningsCancel, RelatedHaveOneType};
 ghost use Rattle.tile_model.specs.Laws.{InverseCancels, InverseCancelsBack, InverseLeadsBack, InversesAreRelated, InverseCrosses};
 ghost use Rattle.tile_model.specs.Laws.{SameTileIsEquivalence, RelatedAtSameTile, WayBetween, TurnsStay};
-ghost use Rattle.tile_model.specs.Laws.{OneDistance, DistanceOfTiles, DistanceZero, DistanceBack, Triangle, DistanceBehind};
+ghost use Rattle.tile_model.specs.Laws.{OneDistance, DistanceOfTiles, DistanceZero, DistanceBack, Triangle, DistanceBehind, DistanceHome};
 
 /// The moves of a tessellation undo each other, walks lead from types to types, and each of the five loops leads back to its type.
 pub fn type_laws()
@@ -40,7 +40,8 @@ pub fn tile_laws()
     ensures turns { TurnsStay }
 {}
 
-/// Two walks have one distance. It is a metric of tiles, and a common beginning of both walks does not count.
+/// Two walks have one distance. It is a metric of tiles, and a common beginning of both walks does not count: it may be taken from where
+/// the first walk leads, along the way back and the second walk.
 pub fn distance_laws()
     ensures one { OneDistance }
     ensures of_tiles { DistanceOfTiles }
@@ -48,4 +49,5 @@ pub fn distance_laws()
     ensures back { DistanceBack }
     ensures triangle { Triangle }
     ensures behind { DistanceBehind }
+    ensures home { DistanceHome }
 {}

@@ -1,0 +1,10 @@
+//! Names of tiles: lists of sides on the way from the root, their order, and their texts.
+#![tactic(auto)]
+
+mod name;
+#[cfg(test)]
+mod tests;
+mod text;
+
+pub use name::Name;
+pub use text::{LONGEST, NameFault, print_name, read_name};
