@@ -1,1 +1,4 @@
--- Lemmas on names, positions and tables that several crates share.
+pub mod Sides
+pub mod Names
+pub mod Positions
+pub mod Rings
