@@ -1,0 +1,8 @@
+-- The task that a form of the words is read as.
+use Rattle.walker_cli.specs.declared.words.Form.{Form}
+use Rattle.walker_cli.specs.declared.words.Form.TheVariants.{Kind, Check}
+use Rattle.walker_cli.specs.Tasks.{Task, TellType, CheckRules}
+
+abbrev pub task_of : Form → Task
+task_of (Kind tess k walk) = TellType tess.now k walk
+task_of (Check tess rules) = CheckRules tess.now rules.now

@@ -1,0 +1,6 @@
+pub mod Tasks
+pub mod Forms
+pub mod Lines
+pub mod Held
+pub mod Due
+pub mod Outcome

@@ -1,0 +1,78 @@
+-- The statuses of the program and its lines.
+use Rattle.std.specs.Prelude.{ℕ, List, [], ◌∷◌, ◌++◌, codes, decimal}
+use Rattle.tile_kinds.specs.declared.fault.KindFault.{KindFault}
+use Rattle.tile_kinds.specs.declared.fault.KindFault.TheVariants.{Count, Sides, Repeat, Partner, Valence, Involution, Corner}
+use Rattle.rules_file.specs.declared.fault.Part.{Part}
+use Rattle.rules_file.specs.declared.fault.Part.TheVariants.{Whole, Version, Scale, Roots, Corners, Corner as OneCorner, States, State}
+use Rattle.walker_cli.specs.declared.status.Status.{Status}
+use Rattle.walker_cli.specs.declared.status.Status.TheVariants.{Done, Usage as UsageStatus, FileFault as FileFaultStatus, FileTooLong as FileTooLongStatus, TessRefused, RulesText, NotAccepted, Memory, WriteFault}
+use Rattle.walker_cli.specs.declared.answer.Role.{Role}
+use Rattle.walker_cli.specs.declared.answer.Role.TheVariants.{Tess, Rules}
+use Rattle.walker_cli.specs.declared.answer.Answer.{Answer}
+use Rattle.walker_cli.specs.declared.answer.Answer.TheVariants.{LeadsTo, Accepted, Usage, FileFault, FileTooLong, TessLine, TessKinds, RulesSyntax, RulesShape, Broken}
+
+-- the exit status
+abbrev pub code_of : Status → ℕ
+code_of Done = 0
+code_of UsageStatus = 2
+code_of FileFaultStatus = 3
+code_of FileTooLongStatus = 4
+code_of TessRefused = 5
+code_of RulesText = 6
+code_of NotAccepted = 7
+code_of Memory = 11
+code_of WriteFault = 13
+
+abbrev pub status_of : Answer → Status
+status_of (LeadsTo d) = Done
+status_of (Accepted states corners) = Done
+status_of Usage = UsageStatus
+status_of (FileFault role) = FileFaultStatus
+status_of (FileTooLong role) = FileTooLongStatus
+status_of (TessLine n) = TessRefused
+status_of (TessKinds fault) = TessRefused
+status_of RulesSyntax = RulesText
+status_of (RulesShape part index) = RulesText
+status_of (Broken at) = NotAccepted
+
+-- numbers, each behind a space, and a line feed
+abbrev pub numbers_text : List ℕ → List ℕ
+numbers_text [] = 10 ∷ []
+numbers_text (n ∷ ns) = 32 ∷ (decimal n ++ numbers_text ns)
+
+abbrev pub numbered : List ℕ → List ℕ → List ℕ
+numbered text ns = text ++ numbers_text ns
+
+-- No file leads to a wrong number of kinds, which has no line.
+abbrev pub kind_fault_line : KindFault → List ℕ
+kind_fault_line Count = []
+kind_fault_line (Sides k s) = numbered (codes "tess sides") (k ∷ s ∷ [])
+kind_fault_line (Repeat k s) = numbered (codes "tess repeat") (k ∷ s ∷ [])
+kind_fault_line (Partner k s) = numbered (codes "tess partner") (k ∷ s ∷ [])
+kind_fault_line (Valence k s) = numbered (codes "tess valence") (k ∷ s ∷ [])
+kind_fault_line (Involution k s) = numbered (codes "tess involution") (k ∷ s ∷ [])
+kind_fault_line (Corner k s) = numbered (codes "tess corner") (k ∷ s ∷ [])
+
+abbrev pub shape_words_of : Part → List ℕ
+shape_words_of Whole = codes "rules shape whole"
+shape_words_of Version = codes "rules shape version"
+shape_words_of Scale = codes "rules shape scale"
+shape_words_of Roots = codes "rules shape roots"
+shape_words_of Corners = codes "rules shape corners"
+shape_words_of OneCorner = codes "rules shape corner"
+shape_words_of States = codes "rules shape states"
+shape_words_of State = codes "rules shape state"
+
+abbrev pub line_of : Answer → List ℕ
+line_of (LeadsTo d) = numbered (codes "type") (d.0 ∷ d.1 ∷ [])
+line_of (Accepted states corners) = numbered (codes "accepted") (states ∷ corners ∷ [])
+line_of Usage = numbered (codes "usage") []
+line_of (FileFault Tess) = numbered (codes "file fault tess") []
+line_of (FileFault Rules) = numbered (codes "file fault rules") []
+line_of (FileTooLong Tess) = numbered (codes "file too long tess") []
+line_of (FileTooLong Rules) = numbered (codes "file too long rules") []
+line_of (TessLine n) = numbered (codes "tess line") (n ∷ [])
+line_of (TessKinds fault) = kind_fault_line fault
+line_of RulesSyntax = numbered (codes "rules syntax") []
+line_of (RulesShape part index) = numbered (shape_words_of part) (index ∷ [])
+line_of (Broken at) = numbered (codes "broken") (at.condition ∷ at.first ∷ at.second ∷ [])

@@ -1,0 +1,42 @@
+-- What the words of the program ask for.
+use Rattle.std.specs.Prelude.{◌≡◌, ℕ, ◌≤◌, List, [], ◌∷◌, length, codes}
+use Rattle.std.specs.Str.Parse.{IsNumeral, digits_value}
+use Rattle.tile_model.specs.declared.Letter.{Letter}
+use Rattle.walk_words.specs.Text.{walk_text}
+
+-- to tell the type that a walk leads to from the start of kind k, or to check rules
+pub data Task : Type 0 where
+  TellType : (tess : List ℕ) (k : ℕ) (walk : List Letter) → Task
+  CheckRules : (tess rules : List ℕ) → Task
+
+-- one to nine digits with this value
+pub record IsNumber (digits : List ℕ) (n : ℕ) : Type 0 where
+  pub numeral : IsNumeral 10 digits
+  pub short : length digits ≤ 9
+  pub value : digits_value 10 digits ≡ n
+
+-- `kind TESS K LETTERS`
+pub record IsKindForm (words : List (List ℕ)) (tess : List ℕ) (k : ℕ) (walk : List Letter) : Type 0 where
+  pub digits : List ℕ
+  pub number : IsNumber digits k
+  pub spelled : words ≡ codes "kind" ∷ tess ∷ digits ∷ walk_text walk ∷ []
+
+-- the words ask for this task
+abbrev pub Ask : List (List ℕ) → Task → Type 0
+Ask words (TellType tess k walk) = IsKindForm words tess k walk
+-- `check TESS RULES`
+Ask words (CheckRules tess rules) = words ≡ codes "check" ∷ tess ∷ rules ∷ []
+
+-- the words are in no form
+abbrev pub HaveNoForm : List (List ℕ) → Type 0
+HaveNoForm words = (task : Task) → Ask words task → ⊥
+
+-- the name of the tessellation file
+abbrev pub tess_of : Task → List ℕ
+tess_of (TellType tess k walk) = tess
+tess_of (CheckRules tess rules) = tess
+
+-- the task names a kind that is none of the tessellation
+abbrev pub LacksKind : Task → ℕ → Type 0
+LacksKind (TellType tess k walk) kinds = kinds ≤ k
+LacksKind (CheckRules tess rules) kinds = ⊥

@@ -1,0 +1,45 @@
+//! How a run of the program ends.
+ghost use Rattle.std.specs.Prelude.{◌≡◌};
+ghost use Rattle.walker_cli.specs.Lines.{code_of};
+
+/// How a run ended. The program exits with its [`code`](Status::code).
+#[derive(Clone, Copy, Debug, PartialEq, Eq)]
+pub enum Status {
+    /// What the words ask for was done and written.
+    Done,
+    /// The words are in no form, or name a kind that is not there.
+    Usage,
+    /// A file could not be read.
+    FileFault,
+    /// A file is longer than its limit.
+    FileTooLong,
+    /// The tessellation file holds no tessellation.
+    TessRefused,
+    /// The rules file holds no rules.
+    RulesText,
+    /// The rules break a condition.
+    NotAccepted,
+    /// There was no memory.
+    Memory,
+    /// Writing failed.
+    WriteFault,
+}
+
+impl Status {
+    /// The exit status of the program.
+    pub fn code(self) -> u8
+        ensures { result ≡ code_of self }
+    {
+        match self {
+            Status::Done => 0,
+            Status::Usage => 2,
+            Status::FileFault => 3,
+            Status::FileTooLong => 4,
+            Status::TessRefused => 5,
+            Status::RulesText => 6,
+            Status::NotAccepted => 7,
+            Status::Memory => 11,
+            Status::WriteFault => 13,
+        }
+    }
+}

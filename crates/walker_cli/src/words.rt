@@ -1,0 +1,91 @@
+//! The words of the program, and what they ask for.
+ghost use Rattle.std.specs.Prelude.{◌≡◌, ◌<◌, ◌^◌, ℕ, List, map, IfOk, IfSome, IfNone, IsErrOf, MatchResult};
+ghost use Rattle.std.specs.String.{string_bytes};
+ghost use Rattle.tile_model.specs.declared.Letter.{Letter};
+ghost use Rattle.walk_words.specs.Text.{walk_text};
+ghost use Rattle.walker_cli.specs.Tasks.{Task, IsNumber, Ask, HaveNoForm};
+ghost use Rattle.walker_cli.specs.Forms.{task_of};
+
+use std::alloc::Global;
+use thiserror::Error;
+use walk_words::{Walk, WalkFault, read_walk};
+
+/// A form of the words, with what it names.
+#[derive(Drop)]
+pub enum Form<'a> {
+    /// `kind TESS K LETTERS`
+    Kind {
+        tess: &'a str,
+        kind: u32,
+        walk: Walk,
+    },
+    /// `check TESS RULES`
+    Check { tess: &'a str, rules: &'a str },
+}
+
+/// Why words are not read.
+#[derive(Clone, Copy, Debug, PartialEq, Eq, Error)]
+pub enum WordsFault {
+    /// They are in no form.
+    #[error("the words are in no form")]
+    Usage,
+    /// There is no memory for what they say.
+    #[error("no memory for the words")]
+    Memory,
+}
+
+/// The number that a text of one to nine digits writes, leading zeros allowed.
+fn number(text: &str) -> Option<u32>
+    ensures some { IfSome result (IsNumber text.now) }
+    ensures none { IfNone result ((n : ℕ) → IsNumber text.now n → ⊥) }
+{
+    let bytes = text.as_bytes();
+    if bytes.is_empty() || bytes.len() > 9 {
+        return None;
+    }
+    if bytes[0] == b'+' {
+        return None;
+    }
+    text.parse::<u32>().ok()
+}
+
+/// The kind and the walk that two words of the form `kind` write.
+fn read_start(alloc: Global, k: &str, letters: &str) -> Result<(u32, Walk), WordsFault>
+    ensures ok { IfOk result (λ start. IsNumber k.now start.0 × (walk_text start.1 ≡ letters.now)) }
+    ensures usage { IsErrOf result WordsFault.Usage → (n : ℕ) (walk : List Letter) → IsNumber k.now n → walk_text walk ≡ letters.now → ⊥ }
+    ensures complete { (n : ℕ) (walk : List Letter) → IsNumber k.now n → walk_text walk ≡ letters.now → MatchResult result (λ start. (start.0 ≡ n) × (start.1 ≡ walk)) (λ e. e ≡ WordsFault.Memory) }
+{
+    let Some(kind) = number(k) else {
+        return Err(WordsFault::Usage);
+    };
+    match read_walk(alloc, letters.as_bytes()) {
+        Ok(walk) => Ok((kind, walk)),
+        Err(WalkFault::Text) => Err(WordsFault::Usage),
+        Err(WalkFault::Memory) => Err(WordsFault::Memory),
+    }
+}
+
+/// Reads the words after the program's name. Words that are in no form are refused by `Usage`.
+pub fn read_words<'a>(alloc: Global, words: &'a [String]) -> Result<Form<'a>, WordsFault>
+    ensures ok { IfOk result (λ form. Ask (map string_bytes words.now) (task_of form)) }
+    ensures usage { IsErrOf result WordsFault.Usage → HaveNoForm (map string_bytes words.now) }
+    ensures complete { (task : Task) → Ask (map string_bytes words.now) task → MatchResult result (λ form. task_of form ≡ task) (λ e. e ≡ WordsFault.Memory) }
+{
+    match words {
+        [form, tess, k, letters] if form.as_str() == "kind" => {
+            match read_start(alloc, k.as_str(), letters.as_str()) {
+                Ok((kind, walk)) => Ok(Form::Kind {
+                    tess: tess.as_str(),
+                    kind,
+                    walk,
+                }),
+                Err(fault) => Err(fault),
+            }
+        }
+        [form, tess, rules] if form.as_str() == "check" => Ok(Form::Check {
+            tess: tess.as_str(),
+            rules: rules.as_str(),
+        }),
+        _ => Err(WordsFault::Usage),
+    }
+}
