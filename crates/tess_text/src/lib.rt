@@ -1,0 +1,5 @@
+//! Reads and prints the text of a tessellation.
+#![tactic(auto)]
+
+mod entry;
+mod scan;
