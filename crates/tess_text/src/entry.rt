@@ -1,4 +1,4 @@
-ghost use Rattle.std.specs.Prelude.{◌≡◌, ◌∷◌, [], List, ℕ, map, codes, IfSome, IfNone};
+ghost use Rattle.std.specs.Prelude.{◌≡◌, ◌∷◌, [], List, ℕ, Option, map, IfSome, IfNone};
 ghost use Rattle.std.specs.declared.option.Option.TheVariants.{Some};
 ghost use Rattle.tess_text.specs.Lines.{words};
 ghost use Rattle.tess_text.specs.Grammar.{number, kind_entry, join_entry, corner_entry, entry};
@@ -119,11 +119,11 @@ fn corner_entry(fields: &[u8]) -> Option<Entry>
 pub fn read_entry(word: &[u8], fields: &[u8]) -> Option<Entry>
     ensures { result ≡ entry (word.now ∷ words fields.now) }
 {
-    if word == b"kind" {
+    if word == b"kind".as_slice() {
         kind_entry(fields)
-    } else if word == b"join" {
+    } else if word == b"join".as_slice() {
         join_entry(fields)
-    } else if word == b"corner" {
+    } else if word == b"corner".as_slice() {
         corner_entry(fields)
     } else {
         None
