@@ -1,6 +1,8 @@
 -- Reading a number digit by digit.
 use Rattle.std.proofs.Common.{◌≡◌, ℕ, zero, suc, ◌+◌, ◌*◌, ◌-◌, ◌<◌, ◌≤◌, ◌⊎◌, inl, inr, Bool, true, false, ◌&&◌, List, [], ◌∷◌, length, drop, get_or, min, refl, sym, ◌∙◌, ap, subst, arith, cond, add-one, drop-cons, None, Some}
-use Rattle.std.specs.Prelude.{nat_lt, nat_le, Option}
+use Rattle.std.specs.Prelude.{nat_lt, nat_le, Option, Result}
+use Rattle.std.specs.declared.result.Result.TheVariants.{Ok, Err}
+use Rattle.std.specs.Result.{OkIff, result_ok}
 use Rattle.std.specs.List.{list_all}
 use Rattle.std.specs.Char.{is_ascii_digit, digit_value}
 use Rattle.std.specs.Str.Parse.{digits_value, digits_value_after}
@@ -66,3 +68,11 @@ none_digits word test = none_from word (grind (arith, nat_tests))
 
 pub none_large : (word : List ℕ) → 255 < digits_value 10 word → number word ≡ None
 none_large word large = none_from word (grind (arith, nat_tests))
+
+-- the conversion to a byte decides
+pub number_of : {E : Type 0} {o : Option ℕ} (word : List ℕ) (value : ℕ) (r : Result ℕ E) → OkIff r (value < 256) value → o ≡ result_ok r → (value < 256 → number word ≡ Some value) → (256 ≤ value → number word ≡ None) → o ≡ number word
+number_of word value (Ok x) fits is small large = is ∙ ap (λ (n : ℕ). Some n) fits.1 ∙ sym (small fits.0)
+number_of word value (Err e) fits is small large = elim (cases_lt value 256) [
+  | inl lt ↦ absurd (fits lt)
+  | inr ge ↦ is ∙ sym (large ge)
+]

@@ -25,9 +25,17 @@ partner_at tables d = slice_index_or (table_at tables d.0).partner d.1 None
 abbrev pub valence_at : List Table → ℕ × ℕ → Option ℕ
 valence_at tables d = slice_index_or (table_at tables d.0).valence d.1 None
 
--- there is a place for the partner, or the valence, of side d
-abbrev pub HasPlace : List Table → ℕ × ℕ → Type 0
-HasPlace tables d = (d.0 < length tables) × (d.1 < (table_at tables d.0).repeat)
+-- there is a place for the partner of side d, and nothing stands there yet
+pub record IsUnjoinedAt (tables : List Table) (d : ℕ × ℕ) : Type 0 where
+  pub kind : d.0 < length tables
+  pub residue : d.1 < length (table_at tables d.0).partner
+  pub free : partner_at tables d ≡ None
+
+-- there is a place for the valence of the corner at side d, and nothing stands there yet
+pub record IsUngivenAt (tables : List Table) (d : ℕ × ℕ) : Type 0 where
+  pub kind : d.0 < length tables
+  pub residue : d.1 < length (table_at tables d.0).valence
+  pub free : valence_at tables d ≡ None
 
 abbrev pub put_partner : List Table → ℕ × ℕ → ℕ × ℕ → List Table
 put_partner tables d e = slice_set tables d.0 (record (table_at tables d.0) { partner = slice_set (table_at tables d.0).partner d.1 (Some e) })

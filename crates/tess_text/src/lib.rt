@@ -3,3 +3,4 @@
 
 mod entry;
 mod scan;
+mod tables;

@@ -4,7 +4,7 @@ use Rattle.std.specs.Char.{is_ascii_digit}
 use Rattle.std.specs.Str.Parse.{digits_value, digits_value_after}
 use Rattle.std.proofs.lemmas.List.{drop_all}
 use Rattle.std.proofs.lemmas.Bool.Decides.{nat_tests}
-use Rattle.tess_text.proofs.Numbers.{value_step, digits_step, digits_fail, number_some, none_short, none_long, none_digits, none_large}
+use Rattle.tess_text.proofs.Numbers.{number_of, value_step, digits_step, digits_fail, number_some, none_short, none_long, none_digits, none_large}
 use Rattle.tess_text.proofs.entry.number.Goals as goal
 use Rattle.tess_text.proofs.entry.number.Goals.{then-is_empty-via-then-is_empty, then-is_empty-via-else-is_empty+then-word-gt9}
 
@@ -32,6 +32,6 @@ returns c =
     let rest : drop c.loop-digit.digit-index c.args.word.now ≡ [] = drop_all c.loop-digit.digit-index c.args.word.now (omega arith) in
     let digits : list_all is_ascii_digit c.args.word.now ≡ true = sym c.loop-digit.invariant.digits ∙ ap (λ (l : List ℕ). list_all is_ascii_digit l) rest in
     let value : min c.loop-digit.value 256 ≡ min (digits_value 10 c.args.word.now) 256 = sym (ap (λ (l : List ℕ). min (digits_value_after 10 c.loop-digit.value l) 256) rest) ∙ c.loop-digit.invariant.value in
-    let h = c.try_from.ensures in
-    let g = c.ok.ensures.value in
-    ?
+    number_of c.args.word.now c.loop-digit.value _ c.try_from.ensures c.ok.ensures.value
+    (λ small. number_some c.args.word.now c.loop-digit.value (grind (arith, nat_tests)) (omega arith) digits (omega (arith, value)) (omega arith))
+    (λ large. none_large c.args.word.now (omega (arith, value)))
