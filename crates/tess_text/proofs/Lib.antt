@@ -1,2 +1,5 @@
 pub mod Cutting
 pub mod Numbers
+pub mod Entering
+pub mod Reading
+pub mod Finishing

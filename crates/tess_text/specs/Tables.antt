@@ -1,9 +1,9 @@
 -- The reader's tables: of each kind what the lines so far have said of it.
-use Rattle.std.specs.Prelude.{◌≡◌, ℕ, ◌<◌, List, [], length, map, replicate, slice_index_or, slice_set, Option, All, IsSome}
+use Rattle.std.specs.Prelude.{◌≡◌, Bool, ℕ, ◌<◌, List, [], length, map, replicate, slice_index_or, slice_set, Option, All, IsSome}
 use Rattle.std.specs.declared.option.Option.TheVariants.{Some, None}
 use Rattle.tile_model.specs.Tessellations.{TileKind}
 use Rattle.tess_text.specs.declared.entry.Entry.{Entry}
-use Rattle.tess_text.specs.Grammar.{shapes, partner, valence}
+use Rattle.tess_text.specs.Grammar.{entries, shapes, partner, valence, has_begun}
 
 -- the shape of a kind, and for each residue its partner and its valence where they have been said
 pub record Table : Type 0 where
@@ -50,6 +50,11 @@ pub record Hold (tables : List Table) (es : List Entry) : Type 0 where
   pub valences : (k : ℕ) → k < length tables → length (table_at tables k).valence ≡ (table_at tables k).repeat
   pub joined : (d : ℕ × ℕ) → partner_at tables d ≡ partner es d
   pub given : (d : ℕ × ℕ) → valence_at tables d ≡ valence es d
+
+-- What the lines so far have said is read: whether the first with words has come, and tables that hold the rest.
+pub record IsRead (started : Bool) (tables : List Table) (lines : List (List (List ℕ))) : Type 0 where
+  pub begun : started ≡ has_begun lines
+  pub hold : Hold tables (entries lines)
 
 -- nothing is missing
 pub record IsFull (t : Table) : Type 0 where

@@ -2,5 +2,7 @@
 #![tactic(auto)]
 
 mod entry;
+mod fault;
+mod read;
 mod scan;
 mod tables;

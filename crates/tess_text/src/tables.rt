@@ -1,5 +1,6 @@
 // The reader's tables: of each kind what the lines so far have said of it.
-ghost use Rattle.std.specs.Prelude.{◌≡◌, ◌<◌, ◌↔◌, ◌++◌, ◌∷◌, [], ℕ, List, length, map, IsTrue, IfOk, OnOk, MatchBool, MatchOption, All};
+ghost use Rattle.std.specs.Prelude.{◌≡◌, ◌<◌, ◌↔◌, ◌++◌, ◌∷◌, [], ℕ, List, length, map, IsTrue, IfOk, OnOk, MatchBool, MatchOption, All, IsSome};
+ghost use Rattle.std.specs.declared.option.Option.TheVariants.{Some};
 ghost use Rattle.tess_text.specs.Grammar.{IsGoodEntry};
 ghost use Rattle.tess_text.specs.Tables.{Hold, IsFull, IsUnjoinedAt, IsUngivenAt, blank, put_partner, put_valence, table_at, table_of};
 ghost use Rattle.tess_text.specs.declared.entry.Entry.{Entry};
@@ -8,6 +9,20 @@ use crate::entry::Entry;
 use std::alloc::{AllocError, Global};
 use std::marker::Model;
 use tile_kinds::Kind;
+
+/// What has been said for each residue, if something has been for all.
+fn all_said<T: Copy>(alloc: Global, said: &[Option<T>]) -> Result<Option<Vec<T>>, AllocError>
+    ensures { IfOk result (λ all. MatchOption all (All (λ x. IsSome x) said.now → ⊥) (λ all. map (λ x. Some x) all.items ≡ said.now)) }
+{
+    let mut all = Vec::with_capacity(alloc, said.len())?;
+    for x in said {
+        let Some(x) = *x else {
+            return Ok(None);
+        };
+        all.push(x)?;
+    }
+    Ok(Some(all))
+}
 
 /// A kind: its shape, and for each residue the partner and the valence where they have been said.
 #[derive(Debug, Drop)]
@@ -31,20 +46,12 @@ impl Table {
     fn finish(&self, alloc: Global) -> Result<Option<Kind>, AllocError>
         ensures { IfOk result (λ kind. MatchOption kind (IsFull self.now → ⊥) (λ kind. table_of kind ≡ self.now)) }
     {
-        let mut partner = Vec::with_capacity(alloc, self.partner.len())?;
-        for side in &self.partner {
-            let Some(side) = *side else {
-                return Ok(None);
-            };
-            partner.push(side)?;
-        }
-        let mut valence = Vec::with_capacity(alloc, self.valence.len())?;
-        for tiles in &self.valence {
-            let Some(tiles) = *tiles else {
-                return Ok(None);
-            };
-            valence.push(tiles)?;
-        }
+        let Some(partner) = all_said(alloc, &self.partner)? else {
+            return Ok(None);
+        };
+        let Some(valence) = all_said(alloc, &self.valence)? else {
+            return Ok(None);
+        };
         Ok(Some(Kind {
             sides: self.sides,
             repeat: self.repeat,
@@ -77,6 +84,20 @@ impl Tables {
         Tables {
             kinds: Vec::new(alloc),
         }
+    }
+
+    /// The number of kinds.
+    fn len(&self) -> usize
+        ensures { result ≡ length self.now }
+    {
+        self.kinds.len()
+    }
+
+    /// Whether there are no kinds.
+    pub fn is_empty(&self) -> bool
+        ensures { IsTrue result ↔ (length self.now ≡ 0) }
+    {
+        self.len() == 0
     }
 
     /// Adds a kind of which nothing more than its shape has been said.
@@ -164,7 +185,7 @@ impl Tables {
                 sides,
                 repeat,
             } => {
-                if kind as usize != self.kinds.len() {
+                if kind as usize != self.len() {
                     return Ok(false);
                 }
                 self.push(alloc, sides, repeat)?;

@@ -1,0 +1,148 @@
+-- Reading the lines of a file one by one.
+use Rattle.std.proofs.Common.{◌≡◌, ◌≢◌, ℕ, zero, suc, ◌+◌, ◌<◌, ◌≤◌, ◌⊎◌, inl, inr, Bool, true, false, ◌||◌, List, [], ◌∷◌, ◌++◌, length, get_or, take, drop, map, refl, sym, ◌∙◌, ap, subst, arith, cond, None, Some}
+use Rattle.std.specs.Prelude.{Option, MatchBool, IsTrue, ◌↔◌}
+use Rattle.std.specs.List.{filter_map, cons_option}
+use Rattle.std.proofs.lemmas.List.{append-nil, length-drop, take_all}
+use Rattle.std.proofs.Math.Seq.{take-suc, drop-cons}
+use Rattle.std.proofs.lemmas.List.Elements.{filter_map-append}
+use Rattle.std.proofs.lemmas.Bool.{cases_eq, cases_lt}
+use Rattle.tess_text.specs.declared.entry.Entry.{Entry}
+use Rattle.tess_text.specs.Lines.{is_nonempty}
+use Rattle.tess_text.specs.Grammar.{entry, entries, has_begun, head, IsGoodEntry, IsGoodLine, IsGoodEnd, IsGoodAt, IsFirstBadAt}
+use Rattle.tess_text.specs.Tables.{Table, Hold, IsRead}
+
+or_false : (b : Bool) → (b || false) ≡ b
+or_false true = refl
+or_false false = refl
+
+or_assoc : (a b c : Bool) → (a || (b || c)) ≡ ((a || b) || c)
+or_assoc true b c = refl
+or_assoc false b c = refl
+
+-- what lines say with one line more
+begun-push : (before : List (List (List ℕ))) (line : List (List ℕ)) → has_begun (before ++ line ∷ []) ≡ (has_begun before || is_nonempty line)
+begun-push [] line = or_false (is_nonempty line)
+begun-push (x ∷ before) line = ap (λ (b : Bool). is_nonempty x || b) (begun-push before line) ∙ or_assoc (is_nonempty x) (has_begun before) (is_nonempty line)
+
+entries_push : (before : List (List (List ℕ))) (line : List (List ℕ)) (o : Option Entry) → entry line ≡ o → entries (before ++ line ∷ []) ≡ entries before ++ cons_option o []
+entries_push before line o is = filter_map-append entry before (line ∷ []) ∙ ap (λ (x : Option Entry). filter_map entry before ++ cons_option x []) is
+
+entries_none : (before : List (List (List ℕ))) (line : List (List ℕ)) → entry line ≡ None → entries (before ++ line ∷ []) ≡ entries before
+entries_none before line none = entries_push before line None none ∙ append-nil (entries before)
+
+entries_some : (before : List (List (List ℕ))) (line : List (List ℕ)) (e : Entry) → entry line ≡ Some e → entries (before ++ line ∷ []) ≡ entries before ++ e ∷ []
+entries_some before line e some = entries_push before line (Some e) some
+
+-- a line with no words
+good_blank : (before : List (List (List ℕ))) → IsGoodLine before []
+good_blank before = record { first = λ none some. absurd (omega arith); later = λ begun some. absurd (omega arith) }
+
+blank_read : (started : Bool) (tables : List Table) (before : List (List (List ℕ))) → IsRead started tables before → IsRead started tables (before ++ [] ∷ [])
+blank_read started tables before read = record {
+  begun = read.begun ∙ sym (begun-push before [] ∙ or_false (has_begun before));
+  hold = subst (λ (es : List Entry). Hold tables es) (sym (entries_none before [] refl)) read.hold;
+}
+
+pub read_blank : (started : Bool) (tables : List Table) (before : List (List (List ℕ))) (line : List (List ℕ)) → line ≡ [] → IsRead started tables before → IsGoodLine before line × IsRead started tables (before ++ line ∷ [])
+read_blank started tables before line blank read =
+    subst (λ (l : List (List ℕ)). IsGoodLine before l × IsRead started tables (before ++ l ∷ [])) (sym blank) (good_blank before, blank_read started tables before read)
+
+-- the first line with words
+pub read_first : (tables : List Table) (before : List (List (List ℕ))) (line : List (List ℕ)) (r : Bool) → 0 < length line → IsTrue r ↔ (line ≡ head) → IsRead false tables before → MatchBool r (IsGoodLine before line × IsRead true tables (before ++ line ∷ [])) (IsGoodLine before line → ⊥)
+read_first tables before line true some is read =
+    let same = is.0 refl in (
+      record { first = λ none full. same; later = λ begun full. absurd (cc (read.begun, begun)) },
+      record {
+        begun = sym (begun-push before line ∙ ap (λ (b : Bool). b || is_nonempty line) (sym read.begun) ∙ ap (λ (l : List (List ℕ)). is_nonempty l) same);
+        hold = subst (λ (es : List Entry). Hold tables es) (sym (entries_none before line (ap (λ (l : List (List ℕ)). entry l) same))) read.hold;
+      },
+    )
+read_first tables before line false some is read = λ good.
+    let no : false ≡ true = is.1 (good.first (sym read.begun) some) in
+    absurd (cc)
+
+-- a later line that says an entry
+pub read_entry : (tables after : List Table) (before : List (List (List ℕ))) (line : List (List ℕ)) (e : Entry) (r : Bool) → 0 < length line → entry line ≡ Some e → MatchBool r (IsGoodEntry (entries before) e × Hold after (entries before ++ e ∷ [])) (IsGoodEntry (entries before) e → ⊥) → IsRead true tables before → MatchBool r (IsGoodLine before line × IsRead true after (before ++ line ∷ [])) (IsGoodLine before line → ⊥)
+read_entry tables after before line e true some says entered read = (
+  record { first = λ none full. absurd (cc (read.begun, none)); later = λ begun full. (e, says, entered.0) },
+  record {
+    begun = sym (begun-push before line ∙ ap (λ (b : Bool). b || is_nonempty line) (sym read.begun));
+    hold = subst (λ (es : List Entry). Hold after es) (sym (entries_some before line e says)) entered.1;
+  },
+)
+read_entry tables after before line e false some says entered read = λ good.
+    let g = good.later (sym read.begun) some in
+    let same : g.0 ≡ e = cc (g.1, says) in
+    entered (subst (λ (x : Entry). IsGoodEntry (entries before) x) same g.2)
+
+-- a later line that says none
+pub no_entry : (tables : List Table) (before : List (List (List ℕ))) (line : List (List ℕ)) → 0 < length line → entry line ≡ None → IsRead true tables before → IsGoodLine before line → ⊥
+no_entry tables before line some none read good =
+    let g = good.later (sym read.begun) some in
+    absurd (cc (g.1, none))
+
+-- the line at place n, and the lines behind it
+pub record Next (lines : List (List (List ℕ))) (n : ℕ) (line : List (List ℕ)) (more : List (List (List ℕ))) : Type 0 where
+  pub place : n < length lines
+  pub here : get_or lines n [] ≡ line
+  pub rest : drop (n + 1) lines ≡ more
+  pub read : take (n + 1) lines ≡ take n lines ++ line ∷ []
+
+pub next : (lines : List (List (List ℕ))) (n : ℕ) (line : List (List ℕ)) (more : List (List (List ℕ))) → drop n lines ≡ line ∷ more → Next lines n line more
+next lines n line more is =
+    let place : n < length lines = omega (arith, ap (λ (l : List (List (List ℕ))). length l) is, length-drop n lines) in
+    let cut = drop-cons lines n [] place in
+    let here : get_or lines n [] ≡ line = cc in
+    let rest : drop (suc n) lines ≡ more = cc in
+    let e : n + 1 ≡ suc n = omega arith in
+    record {
+      place = place;
+      here = here;
+      rest = rw e rest;
+      read = rw e (take-suc lines n [] place ∙ ap (λ (l : List (List ℕ)). take n lines ++ l ∷ []) here);
+    }
+
+-- the line at place n, seen from what comes before it
+pub good_here : (lines : List (List (List ℕ))) (n : ℕ) (line : List (List ℕ)) (more : List (List (List ℕ))) → Next lines n line more → IsGoodLine (take n lines) line → IsGoodAt lines n
+good_here lines n line more at good = record {
+  line = λ lt. subst (λ (l : List (List ℕ)). IsGoodLine (take n lines) l) (sym at.here) good;
+  end = λ last. absurd (omega (arith, at.place));
+}
+
+-- and where it is the first bad one
+pub bad_here : (lines : List (List (List ℕ))) (n : ℕ) (line : List (List ℕ)) (more : List (List (List ℕ))) → Next lines n line more → ((j : ℕ) → j < n → IsGoodAt lines j) → (IsGoodLine (take n lines) line → ⊥) → IsFirstBadAt lines n
+bad_here lines n line more at earlier bad = record {
+  place = omega (arith, at.place);
+  bad = λ good. bad (subst (λ (l : List (List ℕ)). IsGoodLine (take n lines) l) at.here (good.line at.place));
+  earlier = earlier;
+}
+
+-- one line more is good
+pub all_good : (lines : List (List (List ℕ))) (n : ℕ) → ((j : ℕ) → j < n → IsGoodAt lines j) → IsGoodAt lines n → (j : ℕ) → j < n + 1 → IsGoodAt lines j
+all_good lines n earlier here j lt = elim (cases_lt j n) [
+  | inl before ↦ earlier j before
+  | inr last ↦ let e : n ≡ j = omega arith in subst (λ (i : ℕ). IsGoodAt lines i) e here
+]
+
+-- behind the last line
+pub record Ended (lines : List (List (List ℕ))) (n : ℕ) : Type 0 where
+  pub place : n ≡ length lines
+  pub read : take n lines ≡ lines
+
+pub ended : (lines : List (List (List ℕ))) (n : ℕ) → n ≤ length lines → drop n lines ≡ [] → Ended lines n
+ended lines n within none =
+    let place : n ≡ length lines = omega (arith, ap (λ (l : List (List (List ℕ))). length l) none, length-drop n lines) in
+    record { place = place; read = take_all n lines (omega arith) }
+
+pub end_good : (lines : List (List (List ℕ))) (n : ℕ) → Ended lines n → ((j : ℕ) → j < n → IsGoodAt lines j) → IsGoodEnd lines → (j : ℕ) → j ≤ length lines → IsGoodAt lines j
+end_good lines n at earlier good j le = elim (cases_lt j n) [
+  | inl before ↦ earlier j before
+  | inr last ↦ record { line = λ lt. absurd (omega (arith, at.place)); end = λ is. good }
+]
+
+pub end_bad : (lines : List (List (List ℕ))) (n : ℕ) → Ended lines n → ((j : ℕ) → j < n → IsGoodAt lines j) → (IsGoodEnd lines → ⊥) → IsFirstBadAt lines n
+end_bad lines n at earlier bad = record {
+  place = omega (arith, at.place);
+  bad = λ good. bad (good.end at.place);
+  earlier = earlier;
+}
