@@ -140,7 +140,7 @@ put_valence_shapes tables said d v has kind = set_shapes tables said d.0 _ has k
 pub kinds_said : (tables : List Table) (es : List Entry) → Hold tables es → length tables ≡ length (shapes es)
 kinds_said tables es hold = sym (length-map tables shape) ∙ ap (λ (l : List (ℕ × ℕ)). length l) hold.shapes
 
-repeat_said : (tables : List Table) (es : List Entry) (k : ℕ) → Hold tables es → (get_or (shapes es) k (0, 0)).1 ≡ (table_at tables k).repeat
+pub repeat_said : (tables : List Table) (es : List Entry) (k : ℕ) → Hold tables es → (get_or (shapes es) k (0, 0)).1 ≡ (table_at tables k).repeat
 repeat_said tables es k hold = ap (λ (l : List (ℕ × ℕ)). (get_or l k (0, 0)).1) (sym hold.shapes) ∙ ap (λ (p : ℕ × ℕ). p.1) (get_or-map shape tables k (blank 0 0))
 
 -- a side is free in the tables where it is by what was said

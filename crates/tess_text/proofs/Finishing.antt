@@ -1,6 +1,8 @@
 -- The end of a file: which tables are full, and which kinds they then are.
-use Rattle.std.proofs.Common.{◌≡◌, ℕ, zero, suc, ◌+◌, ◌<◌, ◌≤◌, Bool, true, false, List, [], ◌∷◌, length, get_or, map, refl, sym, ◌∙◌, ap, subst, arith, None, Some, All}
-use Rattle.std.specs.Prelude.{Option, IsSome}
+use Rattle.std.proofs.Common.{◌≡◌, ℕ, zero, suc, ◌+◌, ◌<◌, ◌≤◌, Bool, true, false, List, [], ◌∷◌, length, get_or, map, refl, sym, inl, inr, ◌∙◌, ap, subst, arith, None, Some, All}
+use Rattle.std.specs.Prelude.{Option, Result, IsSome, IfOk, MatchOption, IsTrue, ◌↔◌}
+use Rattle.std.proofs.lemmas.Bool.{cases_eq}
+use Rattle.std.specs.declared.result.Result.TheVariants.{Ok, Err}
 use Rattle.std.proofs.lemmas.List.{length-map, get_or-map}
 use Rattle.std.proofs.Math.ListN.{get_or-map as map_at}
 use Rattle.std.proofs.lemmas.List.Elements.{All-from_get_or}
@@ -21,6 +23,16 @@ cross_at kinds d of_type =
 -- a list of which all has been said
 some_at : {X : Type 0} (xs : List X) (i : ℕ) (d : X) → i < length xs → get_or (map (λ x. Some x) xs) i None ≡ Some (get_or xs i d)
 some_at xs i d lt = get_or-map (λ x. Some x) xs i d None lt
+
+abbrev kind_shape : TileKind → ℕ × ℕ
+kind_shape kind = (kind.sides, kind.repeat)
+
+abbrev table_shape : Table → ℕ × ℕ
+table_shape t = (t.sides, t.repeat)
+
+shapes_map : (kinds : List TileKind) → map kind_shape kinds ≡ map table_shape (map table_of kinds)
+shapes_map [] = refl
+shapes_map (kind ∷ kinds) = ap (λ (l : List (ℕ × ℕ)). (kind.sides, kind.repeat) ∷ l) (shapes_map kinds)
 
 module _ (kinds : List TileKind) (es : List Entry) (hold : Hold (map table_of kinds) es) where
   at : (k : ℕ) → table_at (map table_of kinds) k ≡ table_of (kind_at kinds k)
@@ -54,10 +66,6 @@ module _ (kinds : List TileKind) (es : List Entry) (hold : Hold (map table_of ki
 
   spelt : Spells es kinds
   spelt = record { shapes = shapes_map kinds ∙ hold.shapes; partners = partners; valences = valences; joined = joined; given = given }
-    where
-      shapes_map : (rest : List TileKind) → map (λ (kind : TileKind). (kind.sides, kind.repeat)) rest ≡ map (λ (t : Table). (t.sides, t.repeat)) (map table_of rest)
-      shapes_map [] = refl
-      shapes_map (kind ∷ rest) = ap (λ (l : List (ℕ × ℕ)). (kind.sides, kind.repeat) ∷ l) (shapes_map rest)
 
   of_side : (d : ℕ × ℕ) → IsSide es d → IsType kinds d
   of_side d side = (
@@ -72,8 +80,8 @@ finished started tables lines kinds read begun some is =
       record {
         begun = sym read.begun ∙ begun;
         kinds = omega (arith, kinds_said tables (entries lines) read.hold);
-        joins = λ d side. subst (λ (o : Option (ℕ × ℕ)). IsSome o) (sym (joined kinds (entries lines) hold d (of_side kinds (entries lines) hold d side))) tt;
-        corners = λ d side. subst (λ (o : Option ℕ). IsSome o) (sym (given kinds (entries lines) hold d (of_side kinds (entries lines) hold d side))) tt;
+        joins = λ d side. subst (λ (o : Option (ℕ × ℕ)). IsSome o) (sym (joined kinds (entries lines) hold d (of_side kinds (entries lines) hold d side))) refl;
+        corners = λ d side. subst (λ (o : Option ℕ). IsSome o) (sym (given kinds (entries lines) hold d (of_side kinds (entries lines) hold d side))) refl;
       },
       spelt kinds (entries lines) hold,
     )
@@ -93,3 +101,19 @@ full_at tables lines hold end k lt =
 
 pub full : (tables : List Table) (lines : List (List (List ℕ))) → Hold tables (entries lines) → IsGoodEnd lines → All IsFull tables
 full tables lines hold end = All-from_get_or IsFull tables (blank 0 0) (full_at tables lines hold end)
+
+-- the same of the answer of a reader at its end
+pub finished_option : {V : Type 0} (items : V → List TileKind) (started : Bool) (tables : List Table) (lines : List (List (List ℕ))) (o : Option V) → IsRead started tables lines → started ≡ true → 0 < length tables → MatchOption o (All IsFull tables → ⊥) (λ v. map table_of (items v) ≡ tables) → MatchOption o (IsGoodEnd lines → ⊥) (λ v. IsGoodEnd lines × Spells (entries lines) (items v))
+finished_option items started tables lines None read begun some missing = λ end. missing (full tables lines read.hold end)
+finished_option items started tables lines (Some v) read begun some is = finished started tables lines (items v) read begun some is
+
+pub finished_result : {V E : Type 0} (items : V → List TileKind) (started : Bool) (tables : List Table) (lines : List (List (List ℕ))) (r : Result (Option V) E) → IsRead started tables lines → started ≡ true → 0 < length tables → IfOk r (λ o. MatchOption o (All IsFull tables → ⊥) (λ v. map table_of (items v) ≡ tables)) → IfOk r (λ o. MatchOption o (IsGoodEnd lines → ⊥) (λ v. IsGoodEnd lines × Spells (entries lines) (items v)))
+finished_result items started tables lines (Err e) read begun some given = tt
+finished_result items started tables lines (Ok o) read begun some given = finished_option items started tables lines o read begun some given
+
+-- a test for nothing that fails
+pub some_from : (n : ℕ) (r : Bool) → IsTrue r ↔ (n ≡ 0) → r ≡ false → 0 < n
+some_from n r test fails = elim (cases_eq n 0) [
+  | inl none ↦ absurd (cc (test.1 none, fails))
+  | inr some ↦ omega arith
+]

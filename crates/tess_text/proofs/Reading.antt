@@ -1,14 +1,17 @@
 -- Reading the lines of a file one by one.
 use Rattle.std.proofs.Common.{◌≡◌, ◌≢◌, ℕ, zero, suc, ◌+◌, ◌<◌, ◌≤◌, ◌⊎◌, inl, inr, Bool, true, false, ◌||◌, List, [], ◌∷◌, ◌++◌, length, get_or, take, drop, map, refl, sym, ◌∙◌, ap, subst, arith, cond, None, Some}
-use Rattle.std.specs.Prelude.{Option, MatchBool, IsTrue, ◌↔◌}
+use Rattle.std.specs.Prelude.{Option, Result, IfOk, MatchBool, IsTrue, ◌↔◌}
+use Rattle.std.specs.declared.result.Result.TheVariants.{Ok, Err}
+use Rattle.tile_model.specs.Tessellations.{TileKind}
 use Rattle.std.specs.List.{filter_map, cons_option}
 use Rattle.std.proofs.lemmas.List.{append-nil, length-drop, take_all}
 use Rattle.std.proofs.Math.Seq.{take-suc, drop-cons}
 use Rattle.std.proofs.lemmas.List.Elements.{filter_map-append}
 use Rattle.std.proofs.lemmas.Bool.{cases_eq, cases_lt}
 use Rattle.tess_text.specs.declared.entry.Entry.{Entry}
-use Rattle.tess_text.specs.Lines.{is_nonempty}
-use Rattle.tess_text.specs.Grammar.{entry, entries, has_begun, head, IsGoodEntry, IsGoodLine, IsGoodEnd, IsGoodAt, IsFirstBadAt}
+use Rattle.tess_text.specs.Lines.{lines, content, words, word_lines, is_nonempty}
+use Rattle.tess_text.specs.Grammar.{entry, entries, has_begun, head, IsGoodEntry, IsGoodLine, IsGoodEnd, IsGoodAt, IsFirstBadAt, IsFirstBadLine}
+use Rattle.tess_text.specs.Spelling.{Spells, IsSpelling}
 use Rattle.tess_text.specs.Tables.{Table, Hold, IsRead}
 
 or_false : (b : Bool) → (b || false) ≡ b
@@ -146,3 +149,77 @@ end_bad lines n at earlier bad = record {
   bad = λ good. bad (good.end at.place);
   earlier = earlier;
 }
+
+-- what was read of a file, n lines of it, before the rest
+pub record Progress (bytes rest : List ℕ) (n : ℕ) (started : Bool) (tables : List Table) : Type 0 where
+  pub fits : n + length rest ≤ length bytes
+  pub within : n ≤ length (word_lines bytes)
+  pub left : drop n (word_lines bytes) ≡ word_lines rest
+  pub read : IsRead started tables (take n (word_lines bytes))
+  pub good : (j : ℕ) → j < n → IsGoodAt (word_lines bytes) j
+
+nothing_read : IsRead false [] []
+nothing_read = record {
+  begun = refl;
+  hold = record {
+    shapes = refl;
+    partners = λ k lt. absurd (omega arith);
+    valences = λ k lt. absurd (omega arith);
+    joined = λ d. refl;
+    given = λ d. refl;
+  };
+}
+
+pub start : (bytes : List ℕ) → Progress bytes bytes 0 false []
+start bytes = record {
+  fits = omega arith;
+  within = omega arith;
+  left = refl;
+  read = nothing_read;
+  good = λ j lt. absurd (omega arith);
+}
+
+module _ (bytes rest : List ℕ) (n : ℕ) (started : Bool) (tables : List Table) (p : Progress bytes rest n started tables) where
+  pub next_of : (line after : List ℕ) → lines rest ≡ line ∷ lines after → Next (word_lines bytes) n (words (content line)) (word_lines after)
+  next_of line after is =
+      next (word_lines bytes) n (words (content line)) (word_lines after)
+      (p.left ∙ ap (λ (l : List (List ℕ)). map (λ x. words (content x)) l) is)
+
+  pub goes_on : (line after : List ℕ) (started' : Bool) (tables' : List Table) → lines rest ≡ line ∷ lines after → length after < length rest → IsGoodLine (take n (word_lines bytes)) (words (content line)) → IsRead started' tables' (take n (word_lines bytes) ++ words (content line) ∷ []) → Progress bytes after (n + 1) started' tables'
+  goes_on line after started' tables' is shorter good read =
+      let at = next_of line after is in
+      record {
+        fits = omega (arith, p.fits);
+        within = omega (arith, at.place);
+        left = at.rest;
+        read = subst (λ (l : List (List (List ℕ))). IsRead started' tables' l) (sym at.read) read;
+        good = all_good (word_lines bytes) n p.good (good_here (word_lines bytes) n (words (content line)) (word_lines after) at good);
+      }
+
+  pub stops : (line after : List ℕ) → lines rest ≡ line ∷ lines after → (IsGoodLine (take n (word_lines bytes)) (words (content line)) → ⊥) → IsFirstBadLine bytes (n + 1)
+  stops line after is bad =
+      (n, omega arith, bad_here (word_lines bytes) n (words (content line)) (word_lines after) (next_of line after is) p.good bad)
+
+  pub ended_of : lines rest ≡ [] → Ended (word_lines bytes) n
+  ended_of none = ended (word_lines bytes) n p.within (p.left ∙ ap (λ (l : List (List ℕ)). map (λ x. words (content x)) l) none)
+
+  pub read_all : lines rest ≡ [] → IsRead started tables (word_lines bytes)
+  read_all none = subst (λ (l : List (List (List ℕ))). IsRead started tables l) (ended_of none).read p.read
+
+  pub end_spells : (kinds : List TileKind) → lines rest ≡ [] → IsGoodEnd (word_lines bytes) × Spells (entries (word_lines bytes)) kinds → IsSpelling bytes kinds
+  end_spells kinds none good = record { grammar = end_good (word_lines bytes) n (ended_of none) p.good good.0; spells = good.1 }
+
+  pub end_stops : lines rest ≡ [] → (IsGoodEnd (word_lines bytes) → ⊥) → IsFirstBadLine bytes (n + 1)
+  end_stops none bad = (n, omega arith, end_bad (word_lines bytes) n (ended_of none) p.good bad)
+
+-- the same of the answer to entering an entry
+pub read_entry_result : {E : Type 0} (tables after : List Table) (before : List (List (List ℕ))) (line : List (List ℕ)) (e : Entry) (started : Bool) (r : Result Bool E) → 0 < length line → entry line ≡ Some e → started ≡ true → IsRead started tables before → IfOk r (λ good. MatchBool good (IsGoodEntry (entries before) e × Hold after (entries before ++ e ∷ [])) (IsGoodEntry (entries before) e → ⊥)) → IfOk r (λ good. MatchBool good (IsGoodLine before line × IsRead started after (before ++ line ∷ [])) (IsGoodLine before line → ⊥))
+read_entry_result tables after before line e started (Err x) some says begun read entered = tt
+read_entry_result tables after before line e started (Ok good) some says begun read entered =
+    subst (λ (b : Bool). MatchBool good (IsGoodLine before line × IsRead b after (before ++ line ∷ [])) (IsGoodLine before line → ⊥)) (sym begun)
+    (read_entry tables after before line e good some says entered (subst (λ (b : Bool). IsRead b tables before) begun read))
+
+-- the same of the first line with words, whose words are told apart
+pub read_first_result : (started : Bool) (tables : List Table) (before : List (List (List ℕ))) (line parts : List (List ℕ)) (r : Bool) → line ≡ parts → 0 < length line → IsTrue r ↔ (parts ≡ head) → started ≡ false → IsRead started tables before → MatchBool r (IsGoodLine before line × IsRead true tables (before ++ line ∷ [])) (IsGoodLine before line → ⊥)
+read_first_result started tables before line parts r is some test none read =
+    read_first tables before line r some ((λ yes. is ∙ test.0 yes), (λ same. test.1 (sym is ∙ same))) (subst (λ (b : Bool). IsRead b tables before) none read)

@@ -4,7 +4,7 @@ use Rattle.tess_text.proofs.tables.Tables.enter.Goals as goal
 
 pub returns-in_ok-push-in-Kind : goal.returns-in_ok-push-in-Kind
 returns-in_ok-push-in-Kind c = λ es hold.
-    entered_kind c.args.self.now c.push.new.self es c.args.entry c.in-Kind.kind c.in-Kind.sides c.in-Kind.repeat c.in-Kind.is (omega arith) ? hold
+    entered_kind c.args.self.now c.push.new.self es c.args.entry c.in-Kind.kind c.in-Kind.sides c.in-Kind.repeat c.in-Kind.is (omega arith) c.in_ok-push-in-Kind.ensures hold
 
 pub returns-in-Join : goal.returns-in-Join
 returns-in-Join c = λ es hold.
