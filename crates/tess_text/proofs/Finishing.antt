@@ -7,18 +7,13 @@ use Rattle.std.proofs.lemmas.List.{length-map, get_or-map}
 use Rattle.std.proofs.Math.ListN.{get_or-map as map_at}
 use Rattle.std.proofs.lemmas.List.Elements.{All-from_get_or}
 use Rattle.std.proofs.lemmas.Bool.Decides.{nat_tests}
-use Rattle.tile_model.specs.Tessellations.{TileKind, no_kind, kind_at, IsType, is_type, cross, valence as valence_of}
+use Rattle.tile_model.specs.Tessellations.{TileKind, no_kind, kind_at, IsType, cross, valence as valence_of}
+use Rattle.tile_kinds.proofs.Types.{cross_at_type}
 use Rattle.tess_text.specs.declared.entry.Entry.{Entry}
 use Rattle.tess_text.specs.Grammar.{entries, shapes, partner, valence, has_begun, IsSide, IsGoodEnd}
 use Rattle.tess_text.specs.Spelling.{Spells}
 use Rattle.tess_text.specs.Tables.{Table, blank, table_at, partner_at, valence_at, table_of, IsFull, Hold, IsRead}
 use Rattle.tess_text.proofs.Entering.{kinds_said, repeat_said}
-
--- the partner of a type, read in its kind
-pub cross_at : (kinds : List TileKind) (d : ℕ × ℕ) → IsType kinds d → cross kinds d ≡ get_or (kind_at kinds d.0).partner d.1 (0, 0)
-cross_at kinds d of_type =
-    let test : is_type kinds d ≡ true = grind (arith, nat_tests, of_type.0, of_type.1) in
-    rw test refl
 
 -- a list of which all has been said
 some_at : {X : Type 0} (xs : List X) (i : ℕ) (d : X) → i < length xs → get_or (map (λ x. Some x) xs) i None ≡ Some (get_or xs i d)
@@ -56,7 +51,7 @@ module _ (kinds : List TileKind) (es : List Entry) (hold : Hold (map table_of ki
       sym (hold.joined d)
       ∙ ap (λ (t : Table). get_or t.partner d.1 None) (at d.0)
       ∙ some_at (kind_at kinds d.0).partner d.1 (0, 0) (omega (arith, partners d.0 of_type.0, of_type.1))
-      ∙ ap (λ (p : ℕ × ℕ). Some p) (sym (cross_at kinds d of_type))
+      ∙ ap (λ (p : ℕ × ℕ). Some p) (sym (cross_at_type kinds d of_type))
 
   given : (d : ℕ × ℕ) → IsType kinds d → valence es d ≡ Some (valence_of kinds d)
   given d of_type =

@@ -3,3 +3,5 @@ pub mod Numbers
 pub mod Entering
 pub mod Reading
 pub mod Finishing
+pub mod OneAnswer
+pub mod Printing

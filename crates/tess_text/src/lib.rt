@@ -3,6 +3,11 @@
 
 mod entry;
 mod fault;
+mod print;
 mod read;
 mod scan;
 mod tables;
+
+pub use fault::TessFault;
+pub use print::print_tess;
+pub use read::read_tess;

@@ -1,8 +1,11 @@
 // Reading the text of a tessellation, line by line.
-ghost use Rattle.std.specs.Prelude.{◌≡◌, ◌<◌, ◌-◌, ◌^◌, ◌↔◌, ◌++◌, ◌∷◌, [], ℕ, List, length, IsTrue, IfOk, IfErr, MatchBool, MatchOption, MatchResult};
+ghost use Rattle.std.specs.Prelude.{◌≡◌, ◌<◌, ◌-◌, ◌^◌, ◌↔◌, ◌++◌, ◌∷◌, [], ℕ, List, length, IsTrue, IfOk, IfErr, MatchBool, MatchOption, MatchResult, ◌⊎◌};
+ghost use Rattle.tile_model.specs.Tessellations.{TileKind};
+ghost use Rattle.tile_model.specs.Validity.{IsValid};
+ghost use Rattle.tile_kinds.specs.declared.fault.KindFault.{KindFault};
 ghost use Rattle.tess_text.specs.Lines.{content, words};
-ghost use Rattle.tess_text.specs.Grammar.{entries, head, IsGoodLine, IsGoodEnd};
-ghost use Rattle.tess_text.specs.Spelling.{Spells, IsSpelling, IsFaultOf};
+ghost use Rattle.tess_text.specs.Grammar.{entries, head, IsGoodLine, IsGoodEnd, IsFirstBadLine};
+ghost use Rattle.tess_text.specs.Spelling.{Spells, IsSpelling, IsRefused, IsFaultOf};
 ghost use Rattle.tess_text.specs.Tables.{IsRead};
 
 use crate::entry::read_entry;
@@ -83,5 +86,25 @@ fn read_kinds(alloc: Global, bytes: &[u8]) -> Result<Vec<Kind>, TessFault>
     match reader.finish(alloc)? {
         Some(kinds) => Ok(kinds),
         None => Err(TessFault::Line(count + 1)),
+    }
+}
+
+/// Reads the text of a tessellation, of fewer than 2^32 - 1 bytes. `TessFault::Line` is the first bad line, counted from 1, where the
+/// end of the text counts as a line. `TessFault::Kinds` comes where no line is bad and the kinds are no tessellation, with the fault
+/// that `Tessellation::make` gives.
+pub fn read_tess(alloc: Global, bytes: &[u8]) -> Result<Tessellation, TessFault>
+    requires { length bytes.now < 2 ^ 32 - 1 }
+    ensures spelling { IfOk result (λ t. IsSpelling bytes.now t) }
+    ensures valid { IfOk result IsValid }
+    ensures cause { IfErr result (IsFaultOf bytes.now) }
+
+    // And each answer comes wherever its cause is there, unless memory runs out.
+    ensures every_spelling { (kinds : List TileKind) → IsSpelling bytes.now kinds → IsValid kinds → MatchResult result (λ t. t ≡ kinds) (λ e. e ≡ TessFault.Memory) }
+    ensures every_bad_line { (n : ℕ) → IsFirstBadLine bytes.now n → MatchResult result (λ _. ⊥) (λ e. (e ≡ TessFault.Line n) ⊎ (e ≡ TessFault.Memory)) }
+    ensures every_refusal { (fault : KindFault) → IsRefused bytes.now fault → MatchResult result (λ _. ⊥) (λ e. (e ≡ TessFault.Kinds fault) ⊎ (e ≡ TessFault.Memory)) }
+{
+    match Tessellation::make(read_kinds(alloc, bytes)?) {
+        Ok(t) => Ok(t),
+        Err((_, fault)) => Err(TessFault::Kinds(fault)),
     }
 }
