@@ -5,3 +5,4 @@ pub mod Reading
 pub mod Finishing
 pub mod OneAnswer
 pub mod Printing
+pub mod Spaced
