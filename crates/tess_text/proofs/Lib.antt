@@ -6,3 +6,4 @@ pub mod Finishing
 pub mod OneAnswer
 pub mod Printing
 pub mod Spaced
+pub mod GoodLines

@@ -1,5 +1,7 @@
 -- A file has one answer: no two first bad lines, no bad line where it is in the grammar, and no two lists of kinds that it spells.
 use Rattle.std.proofs.Common.{◌≡◌, ℕ, suc, ◌<◌, ◌≤◌, ◌⊎◌, inl, inr, List, [], length, get_or, map, refl, sym, ◌∙◌, ap, subst, arith, Some}
+use Rattle.std.specs.Prelude.{Result, IsErr, IfErr, MatchResult}
+use Rattle.std.specs.declared.result.Result.TheVariants.{Ok, Err}
 use Rattle.std.proofs.lemmas.List.{same_lists, get_or_default, length-map}
 use Rattle.std.proofs.Math.ListN.{get_or-map}
 use Rattle.std.proofs.lemmas.Bool.{cases_order}
@@ -111,3 +113,12 @@ only_fault bytes Memory fault cause refused = inr refl
 pub not_refused : (bytes : List ℕ) (kinds : List TileKind) (fault : KindFault) → IsSpelling bytes kinds → IsValid kinds → IsRefused bytes fault → ⊥
 not_refused bytes kinds fault spelling valid refused =
     refuted kinds fault (subst (λ (ks : List TileKind). IsFault ks fault) (spelling_same bytes refused.kinds kinds refused.spelling spelling) refused.refused) valid
+
+-- the same of an answer that is a fault with its cause
+pub err_memory : {T : Type 0} (P : T → Type 0) (bytes : List ℕ) (r : Result T TessFault) (kinds : List TileKind) → IsErr r → IfErr r (IsFaultOf bytes) → IsSpelling bytes kinds → IsValid kinds → MatchResult r P (λ e. e ≡ Memory)
+err_memory P bytes (Ok x) kinds is cause spelling valid = absurd (cc)
+err_memory P bytes (Err e) kinds is cause spelling valid = only_memory bytes e kinds cause spelling valid
+
+pub err_fault : {T : Type 0} (bytes : List ℕ) (r : Result T TessFault) (fault : KindFault) → IsErr r → IfErr r (IsFaultOf bytes) → IsRefused bytes fault → MatchResult r (λ x. ⊥) (λ e. (e ≡ Kinds fault) ⊎ (e ≡ Memory))
+err_fault bytes (Ok x) fault is cause refused = absurd (cc)
+err_fault bytes (Err e) fault is cause refused = only_fault bytes e fault cause refused
