@@ -7,3 +7,5 @@ pub mod OneAnswer
 pub mod Printing
 pub mod Spaced
 pub mod GoodLines
+pub mod GoodEntries
+pub mod Canonical

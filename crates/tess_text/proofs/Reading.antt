@@ -23,7 +23,7 @@ or_assoc true b c = refl
 or_assoc false b c = refl
 
 -- what lines say with one line more
-begun-push : (before : List (List (List ℕ))) (line : List (List ℕ)) → has_begun (before ++ line ∷ []) ≡ (has_begun before || is_nonempty line)
+pub begun-push : (before : List (List (List ℕ))) (line : List (List ℕ)) → has_begun (before ++ line ∷ []) ≡ (has_begun before || is_nonempty line)
 begun-push [] line = or_false (is_nonempty line)
 begun-push (x ∷ before) line = ap (λ (b : Bool). is_nonempty x || b) (begun-push before line) ∙ or_assoc (is_nonempty x) (has_begun before) (is_nonempty line)
 
@@ -33,7 +33,7 @@ entries_push before line o is = filter_map-append entry before (line ∷ []) ∙
 entries_none : (before : List (List (List ℕ))) (line : List (List ℕ)) → entry line ≡ None → entries (before ++ line ∷ []) ≡ entries before
 entries_none before line none = entries_push before line None none ∙ append-nil (entries before)
 
-entries_some : (before : List (List (List ℕ))) (line : List (List ℕ)) (e : Entry) → entry line ≡ Some e → entries (before ++ line ∷ []) ≡ entries before ++ e ∷ []
+pub entries_some : (before : List (List (List ℕ))) (line : List (List ℕ)) (e : Entry) → entry line ≡ Some e → entries (before ++ line ∷ []) ≡ entries before ++ e ∷ []
 entries_some before line e some = entries_push before line (Some e) some
 
 -- a line with no words
