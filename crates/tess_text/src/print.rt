@@ -1,6 +1,7 @@
 // Printing the canonical text of a tessellation.
 ghost use Rattle.std.specs.Prelude.{◌≡◌, ◌++◌, ◌∷◌, ◌<◌, ◌≤◌, ℕ, List, length, decimal, IfOk, OnOk};
 ghost use Rattle.tile_model.specs.Tessellations.{TileKind, kind_at};
+ghost use Rattle.tess_text.specs.Spelling.{IsSpelling};
 ghost use Rattle.tess_text.specs.Text.{tess_text, numbers_text, entry_text, entries_text, all_entries, kind_entries, partner_entries, join_entries, valence_entries, corner_entries};
 
 use crate::entry::Entry;
@@ -144,9 +145,12 @@ fn push_all(out: &mut Vec<u8>, kinds: &[Kind]) -> Result<(), AllocError>
     push_corners(out, kinds)
 }
 
-/// The canonical text of a tessellation: `tess 1`, its kinds, its joins and its corners, a line each.
+/// The canonical text of a tessellation: `tess 1`, its kinds, its joins and its corners, a line each. `read_tess` gives the tessellation
+/// back, since the text spells it and no other.
 pub fn print_tess(alloc: Global, t: &Tessellation) -> Result<Vec<u8>, AllocError>
     ensures text { IfOk result (λ out. out.items ≡ tess_text t.now) }
+    ensures spelling { IfOk result (λ out. IsSpelling out.items t.now) }
+    ensures of_no_other { IfOk result (λ out. (kinds : List TileKind) → IsSpelling out.items kinds → kinds ≡ t.now) }
 {
     let mut out = Vec::from_slice(alloc, b"tess 1\n")?;
     push_all(&mut out, t.all_kinds())?;
