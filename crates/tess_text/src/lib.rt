@@ -7,6 +7,8 @@ mod print;
 mod read;
 mod scan;
 mod tables;
+#[cfg(test)]
+mod tests;
 
 pub use fault::TessFault;
 pub use print::print_tess;
