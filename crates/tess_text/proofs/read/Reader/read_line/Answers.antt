@@ -1,0 +1,22 @@
+use Rattle.std.proofs.Common.{◌≡◌, List, ℕ, ◌<◌, ◌∷◌, [], length, ◌∙◌, ap, sym, arith}
+use Rattle.std.proofs.lemmas.Bool.Decides.{nat_tests}
+use Rattle.tess_text.specs.Lines.{content, words}
+use Rattle.tess_text.specs.Grammar.{entry, entries}
+use Rattle.tess_text.proofs.Reading.{read_blank, read_first_result, read_entry_result}
+use Rattle.tess_text.proofs.read.Reader.read_line.Goals as goal
+
+pub returns-in_default : goal.returns-in_default
+returns-in_default c = λ before read.
+    read_blank _ _ before (words (content c.args.line.now)) (ap (λ (l : List ℕ). words l) (sym c.content.ensures) ∙ c.in_default.ensures) read
+
+pub returns-then-not-self : goal.returns-then-not-self
+returns-then-not-self c = λ before read.
+    let is : words (content c.args.line.now) ≡ c.in-Some.word.now ∷ words c.in-Some.fields.now = ap (λ (l : List ℕ). words l) (sym c.content.ensures) ∙ c.in-Some.ensures in
+    let some : 0 < length (words (content c.args.line.now)) = omega (arith, ap (λ (l : List (List ℕ)). length l) is) in
+    read_first_result _ _ before (words (content c.args.line.now)) (c.in-Some.word.now ∷ words c.in-Some.fields.now) c.is_head.result is some c.is_head.ensures c.if-not-self.true read
+
+pub returns-in-Some-read_entry : goal.returns-in-Some-read_entry
+returns-in-Some-read_entry c = λ before read.
+    let is : words (content c.args.line.now) ≡ c.in-Some.word.now ∷ words c.in-Some.fields.now = ap (λ (l : List ℕ). words l) (sym c.content.ensures) ∙ c.in-Some.ensures in
+    let some : 0 < length (words (content c.args.line.now)) = omega (arith, ap (λ (l : List (List ℕ)). length l) is) in
+    read_entry_result _ c.enter.new.self before (words (content c.args.line.now)) c.in-Some-read_entry.entry _ c.enter.result some (ap (λ (l : List (List ℕ)). entry l) is ∙ sym c.read_entry.ensures ∙ c.in-Some-read_entry.is) c.if-not-self.false read (c.enter.ensures (entries before) read.hold)

@@ -1,0 +1,5 @@
+pub mod Lines
+pub mod Grammar
+pub mod Spelling
+pub mod Text
+pub mod Tables
