@@ -12,10 +12,16 @@ use Rattle.rules_file.specs.declared.fault.Part.{Part}
 use Rattle.rules_file.specs.Spelling.{IsTextOf, IsRulesFile}
 use Rattle.rules_file.specs.Faults.{IsFirstFault}
 use Rattle.structure_check.specs.Broken.{IsFirstBroken}
-use Rattle.walker_cli.specs.declared.TheConstants.{TESS_LIMIT, RULES_LIMIT}
 use Rattle.walker_cli.specs.declared.answer.Role.TheVariants.{Tess, Rules}
 use Rattle.walker_cli.specs.declared.answer.Answer.{Answer}
 use Rattle.walker_cli.specs.declared.answer.Answer.TheVariants.{FileTooLong, TessLine, TessKinds, RulesSyntax, RulesShape, Broken}
+
+-- the greatest number of bytes of a tessellation file and of a rules file
+abbrev pub tess_limit : ℕ
+tess_limit = 1048576
+
+abbrev pub rules_limit : ℕ
+rules_limit = 33554432
 
 -- the file holds these bytes, and they are within its limit
 pub record Holds (contents : List ℕ → Option (List ℕ)) (file : List ℕ) (limit : ℕ) (bytes : List ℕ) : Type 0 where
@@ -36,23 +42,23 @@ pub data Outcome (A : Type 0) : Type 0 where
 -- what a tessellation file comes to
 pub data IsTess (contents : List ℕ → Option (List ℕ)) (file : List ℕ) : Outcome (List TileKind) → Type 0 where
   -- it is too long
-  tess_too_long : HoldsTooMany contents file TESS_LIMIT → IsTess contents file (Refused (FileTooLong Tess))
+  tess_too_long : HoldsTooMany contents file tess_limit → IsTess contents file (Refused (FileTooLong Tess))
   -- line n is its first bad line
-  tess_line : (bytes : List ℕ) (n : ℕ) → Holds contents file TESS_LIMIT bytes → IsFirstBadLine bytes n → IsTess contents file (Refused (TessLine n))
+  tess_line : (bytes : List ℕ) (n : ℕ) → Holds contents file tess_limit bytes → IsFirstBadLine bytes n → IsTess contents file (Refused (TessLine n))
   -- no line is bad, and its kinds have this fault
-  tess_kinds : (bytes : List ℕ) (fault : KindFault) → Holds contents file TESS_LIMIT bytes → IsRefused bytes fault → IsTess contents file (Refused (TessKinds fault))
+  tess_kinds : (bytes : List ℕ) (fault : KindFault) → Holds contents file tess_limit bytes → IsRefused bytes fault → IsTess contents file (Refused (TessKinds fault))
   -- it is a spelling of a tessellation
-  tess_loaded : (bytes : List ℕ) (kinds : List TileKind) → Holds contents file TESS_LIMIT bytes → IsSpelling bytes kinds → IsValid kinds → IsTess contents file (Loaded kinds)
+  tess_loaded : (bytes : List ℕ) (kinds : List TileKind) → Holds contents file tess_limit bytes → IsSpelling bytes kinds → IsValid kinds → IsTess contents file (Loaded kinds)
 
 -- what a rules file comes to, over the kinds of a tessellation
 pub data IsRules (contents : List ℕ → Option (List ℕ)) (kinds : List TileKind) (file : List ℕ) : Outcome TreeAutomaton → Type 0 where
   -- it is too long
-  rules_too_long : HoldsTooMany contents file RULES_LIMIT → IsRules contents kinds file (Refused (FileTooLong Rules))
+  rules_too_long : HoldsTooMany contents file rules_limit → IsRules contents kinds file (Refused (FileTooLong Rules))
   -- it is no JSON text
-  rules_syntax : (bytes : List ℕ) → Holds contents file RULES_LIMIT bytes → ((d : Data) → ¬ IsTextOf bytes d) → IsRules contents kinds file (Refused RulesSyntax)
+  rules_syntax : (bytes : List ℕ) → Holds contents file rules_limit bytes → ((d : Data) → ¬ IsTextOf bytes d) → IsRules contents kinds file (Refused RulesSyntax)
   -- the value of the text first fails at this part
-  rules_shape : (bytes : List ℕ) (d : Data) (part : Part) (index : ℕ) → Holds contents file RULES_LIMIT bytes → IsTextOf bytes d → IsFirstFault d part index → IsRules contents kinds file (Refused (RulesShape part index))
+  rules_shape : (bytes : List ℕ) (d : Data) (part : Part) (index : ℕ) → Holds contents file rules_limit bytes → IsTextOf bytes d → IsFirstFault d part index → IsRules contents kinds file (Refused (RulesShape part index))
   -- the automaton breaks a condition, first at this place
-  rules_broken : (bytes : List ℕ) (a : TreeAutomaton) (c first second : ℕ) → Holds contents file RULES_LIMIT bytes → IsRulesFile bytes a → IsFirstBroken kinds a c first second → IsRules contents kinds file (Refused (Broken (record { condition = c; first = first; second = second })))
+  rules_broken : (bytes : List ℕ) (a : TreeAutomaton) (c first second : ℕ) → Holds contents file rules_limit bytes → IsRulesFile bytes a → IsFirstBroken kinds a c first second → IsRules contents kinds file (Refused (Broken (record { condition = c; first = first; second = second })))
   -- it is a spelling of an automaton that meets all conditions
-  rules_loaded : (bytes : List ℕ) (a : TreeAutomaton) → Holds contents file RULES_LIMIT bytes → IsRulesFile bytes a → IsAccepted kinds a → IsRules contents kinds file (Loaded a)
+  rules_loaded : (bytes : List ℕ) (a : TreeAutomaton) → Holds contents file rules_limit bytes → IsRulesFile bytes a → IsAccepted kinds a → IsRules contents kinds file (Loaded a)

@@ -3,4 +3,5 @@ pub mod Forms
 pub mod Lines
 pub mod Held
 pub mod Due
+pub mod Loading
 pub mod Outcome

@@ -5,8 +5,17 @@ ghost use Rattle.tile_model.specs.Validity.{IsValid};
 ghost use Rattle.tree_model.specs.Automata.{TreeAutomaton};
 ghost use Rattle.way_io.specs.Counts.{Rose};
 ghost use Rattle.way_io.specs.Contents.{KeepsAll};
-ghost use Rattle.walker_cli.specs.Held.{Outcome, Loaded, Refused, Holds, HoldsTooMany, IsTess, IsRules};
-ghost use Rattle.walker_cli.specs.Loading.{IsFault, IsTessRefusal, IsRulesRefusal, IsLoaded, IsRefusedAs};
+ghost use Rattle.walker_cli.specs.Held.{Loaded, Refused, Holds, HoldsTooMany, IsTess, IsRules, tess_limit, rules_limit};
+ghost use Rattle.tess_text.specs.Grammar.{IsFirstBadLine};
+ghost use Rattle.tess_text.specs.Spelling.{IsSpelling, IsRefused};
+ghost use Rattle.tile_kinds.specs.declared.fault.KindFault.{KindFault};
+ghost use Rattle.serde_json.specs.Data.{Data};
+ghost use Rattle.rules_file.specs.declared.fault.Part.{Part};
+ghost use Rattle.rules_file.specs.Spelling.{IsTextOf, IsRulesFile};
+ghost use Rattle.rules_file.specs.Faults.{IsFirstFault};
+ghost use Rattle.tree_model.specs.Conditions.{IsAccepted};
+ghost use Rattle.structure_check.specs.Broken.{IsFirstBroken};
+ghost use Rattle.walker_cli.specs.Loading.{IsRefusedAs, IsOfOutside};
 
 use crate::answer::{Answer, Role};
 use rules_file::{RulesFault, read_rules};
@@ -43,10 +52,13 @@ fn fetch<F: Files>(
 ) -> Result<Vec<u8>, Refusal>
     ensures ok { IsTrue F.tells → IfOk result (λ bytes. Holds (F.contents files.old) name.now limit bytes.items) }
     ensures within { IfOk result (λ bytes. length bytes.items ≤ limit) }
-    ensures refused { IsTrue F.tells → (answer : Answer) → result ≡ Err (Refusal.Answered answer) → (answer ≡ Answer.FileTooLong role) × HoldsTooMany (F.contents files.old) name.now limit }
-    ensures held { IsTrue F.tells → (bytes : List ℕ) → Holds (F.contents files.old) name.now limit bytes → MatchResult result (λ b. b.items ≡ bytes) (λ e. (e ≡ Refusal.Failed role) ⊎ (e ≡ Refusal.Memory)) }
-    ensures too_many { IsTrue F.tells → HoldsTooMany (F.contents files.old) name.now limit → MatchResult result (λ _. ⊥) (λ e. (e ≡ Refusal.Answered (Answer.FileTooLong role)) ⊎ ((e ≡ Refusal.Failed role) ⊎ (e ≡ Refusal.Memory))) }
-    ensures failed { (r : Role) → result ≡ Err (Refusal.Failed r) → (r ≡ role) × Rose (F.fetch_faults files.old) (F.fetch_faults files.new) }
+    ensures refused { IsTrue F.tells → (answer : Answer) → result ≡ Err (Refusal.Answered answer)
+        → (answer ≡ Answer.FileTooLong role) × HoldsTooMany (F.contents files.old) name.now limit }
+    ensures held { IsTrue F.tells → (bytes : List ℕ) → Holds (F.contents files.old) name.now limit bytes
+        → MatchResult result (λ b. b.items ≡ bytes) IsOfOutside }
+    ensures too_many { IsTrue F.tells → HoldsTooMany (F.contents files.old) name.now limit
+        → MatchResult result (λ _. ⊥) (IsRefusedAs (Answer.FileTooLong role)) }
+    ensures failed { (r : Role) → result ≡ Err (Refusal.Failed r) → Rose (F.fetch_faults files.old) (F.fetch_faults files.new) }
     ensures later { F.fetch_faults files.old ≤ F.fetch_faults files.new }
     ensures same { IsTrue F.tells → KeepsAll (F.contents files.old) (F.contents files.new) }
     ensures stores { F.store_faults files.new ≡ F.store_faults files.old }
@@ -56,5 +68,80 @@ fn fetch<F: Files>(
         Err(FetchFault::Failed) => Err(Refusal::Failed(role)),
         Err(FetchFault::TooLong) => Err(Refusal::Answered(Answer::FileTooLong(role))),
         Err(FetchFault::Memory) => Err(Refusal::Memory),
+    }
+}
+
+/// The tessellation that a file holds.
+pub fn load_tess<F: Files>(
+    alloc: Global,
+    files: &mut F,
+    name: &str,
+) -> Result<Tessellation, Refusal>
+    ensures ok { IsTrue F.tells → IfOk result (λ t. IsTess (F.contents files.old) name.now (Loaded t)) }
+    ensures valid { IfOk result IsValid }
+    ensures refused { IsTrue F.tells → (answer : Answer) → result ≡ Err (Refusal.Answered answer) → IsTess (F.contents files.old) name.now (Refused answer) }
+    ensures too_long { IsTrue F.tells → HoldsTooMany (F.contents files.old) name.now tess_limit
+        → MatchResult result (λ _. ⊥) (IsRefusedAs (Answer.FileTooLong Role.Tess)) }
+    ensures bad_line { IsTrue F.tells → (bytes : List ℕ) (n : ℕ) → Holds (F.contents files.old) name.now tess_limit bytes → IsFirstBadLine bytes n
+        → MatchResult result (λ _. ⊥) (IsRefusedAs (Answer.TessLine n)) }
+    ensures bad_kinds { IsTrue F.tells → (bytes : List ℕ) (fault : KindFault) → Holds (F.contents files.old) name.now tess_limit bytes → IsRefused bytes fault
+        → MatchResult result (λ _. ⊥) (IsRefusedAs (Answer.TessKinds fault)) }
+    ensures loaded { IsTrue F.tells → (bytes : List ℕ) (kinds : List TileKind) → Holds (F.contents files.old) name.now tess_limit bytes → IsSpelling bytes kinds → IsValid kinds
+        → MatchResult result (λ t. t ≡ kinds) IsOfOutside }
+    ensures failed { (r : Role) → result ≡ Err (Refusal.Failed r) → Rose (F.fetch_faults files.old) (F.fetch_faults files.new) }
+    ensures later { F.fetch_faults files.old ≤ F.fetch_faults files.new }
+    ensures same { IsTrue F.tells → KeepsAll (F.contents files.old) (F.contents files.new) }
+    ensures stores { F.store_faults files.new ≡ F.store_faults files.old }
+{
+    let bytes = match fetch(alloc, files, Role::Tess, name, TESS_LIMIT) {
+        Ok(bytes) => bytes,
+        Err(refusal) => return Err(refusal),
+    };
+    match read_tess(alloc, &bytes) {
+        Ok(tess) => Ok(tess),
+        Err(TessFault::Line(line)) => Err(Refusal::Answered(Answer::TessLine(line))),
+        Err(TessFault::Kinds(fault)) => Err(Refusal::Answered(Answer::TessKinds(fault))),
+        Err(TessFault::Memory) => Err(Refusal::Memory),
+    }
+}
+
+/// The rules that a file holds, checked over a tessellation.
+pub fn load_rules<F: Files>(
+    alloc: Global,
+    files: &mut F,
+    tess: Tessellation,
+    name: &str,
+) -> Result<Rules, Refusal>
+    ensures ok { IsTrue F.tells → IfOk result (λ r. IsRules (F.contents files.old) tess name.now (Loaded r.automaton)) }
+    ensures refused { IsTrue F.tells → (answer : Answer) → result ≡ Err (Refusal.Answered answer) → IsRules (F.contents files.old) tess name.now (Refused answer) }
+    ensures too_long { IsTrue F.tells → HoldsTooMany (F.contents files.old) name.now rules_limit
+        → MatchResult result (λ _. ⊥) (IsRefusedAs (Answer.FileTooLong Role.Rules)) }
+    ensures no_text { IsTrue F.tells → (bytes : List ℕ) → Holds (F.contents files.old) name.now rules_limit bytes → ((d : Data) → ¬ IsTextOf bytes d)
+        → MatchResult result (λ _. ⊥) (IsRefusedAs Answer.RulesSyntax) }
+    ensures misshapen { IsTrue F.tells → (bytes : List ℕ) (d : Data) (part : Part) (i : ℕ) → Holds (F.contents files.old) name.now rules_limit bytes → IsTextOf bytes d → IsFirstFault d part i
+        → MatchResult result (λ _. ⊥) (IsRefusedAs (Answer.RulesShape part i)) }
+    ensures broken { IsTrue F.tells → (bytes : List ℕ) (a : TreeAutomaton) (c first second : ℕ) → Holds (F.contents files.old) name.now rules_limit bytes → IsRulesFile bytes a → IsFirstBroken tess a c first second
+        → MatchResult result (λ _. ⊥) (IsRefusedAs (Answer.Broken (record { condition = c; first = first; second = second }))) }
+    ensures loaded { IsTrue F.tells → (bytes : List ℕ) (a : TreeAutomaton) → Holds (F.contents files.old) name.now rules_limit bytes → IsRulesFile bytes a → IsAccepted tess a
+        → MatchResult result (λ r. r.automaton ≡ a) IsOfOutside }
+    ensures failed { (r : Role) → result ≡ Err (Refusal.Failed r) → Rose (F.fetch_faults files.old) (F.fetch_faults files.new) }
+    ensures same { IsTrue F.tells → KeepsAll (F.contents files.old) (F.contents files.new) }
+    ensures stores { F.store_faults files.new ≡ F.store_faults files.old }
+{
+    let bytes = match fetch(alloc, files, Role::Rules, name, RULES_LIMIT) {
+        Ok(bytes) => bytes,
+        Err(refusal) => return Err(refusal),
+    };
+    let automaton = match read_rules(alloc, &bytes) {
+        Ok(automaton) => automaton,
+        Err(RulesFault::Syntax) => return Err(Refusal::Answered(Answer::RulesSyntax)),
+        Err(RulesFault::Shape { part, index }) => {
+            return Err(Refusal::Answered(Answer::RulesShape { part, index }));
+        }
+        Err(RulesFault::Memory) => return Err(Refusal::Memory),
+    };
+    match check(tess, automaton) {
+        Ok(rules) => Ok(rules),
+        Err((_, _, broken)) => Err(Refusal::Answered(Answer::Broken(broken))),
     }
 }
