@@ -1,8 +1,7 @@
 -- What closed tables name is there.
-use Rattle.std.proofs.Common.{◌≡◌, ◌∙◌, ℕ, suc, ◌<◌, ◌≤◌, ◌-◌, List, length, zero, ◌≢◌, sym, subst, arith}
+use Rattle.std.proofs.Common.{◌≡◌, ℕ, suc, ◌<◌, List, length, zero, ◌≢◌, subst, arith}
 use Rattle.tile_model.specs.Tessellations.{TileKind}
-use Rattle.tree_model.specs.declared.Rule.TheVariants.{Parent, Child, Left, Right}
-use Rattle.tree_model.specs.declared.Claim.{Claim}
+use Rattle.tree_model.specs.declared.Rule.TheVariants.{Child, Left, Right}
 use Rattle.tree_model.specs.Automata.{TreeAutomaton, side_count, rule_at, claim_at, corner_valence, outer, next, previous}
 use Rattle.tree_model.specs.Conditions.{IsClosedTable, AtEverySide, HasFirstPlace, HasLastPlace}
 use Rattle.structure_check.specs.Search.{IsClaim}

@@ -1,10 +1,10 @@
 -- Where all conditions hold no place is the first broken one, and there is one first broken place at most.
 use Rattle.std.proofs.lemmas.Bool.{cases_lt}
-use Rattle.std.proofs.Common.{◌≡◌, ℕ, suc, ◌<◌, ◌≤◌, ◌⊎◌, inl, inr, List, length, refl, sym, subst, arith}
+use Rattle.std.proofs.Common.{◌≡◌, ℕ, ◌<◌, ◌≤◌, inl, inr, List, sym, subst, arith}
 use Rattle.tile_model.specs.Tessellations.{TileKind}
 use Rattle.tree_model.specs.Automata.{TreeAutomaton}
 use Rattle.tree_model.specs.Conditions.{IsAccepted, IsClosedTable}
-use Rattle.structure_check.specs.Broken.{IsPlace, IsBefore, IsFirstBroken, Holds, PartHolds, part_size}
+use Rattle.structure_check.specs.Broken.{IsBefore, IsFirstBroken, PartHolds}
 use Rattle.structure_check.specs.Search.{HoldBelow, PartsBelow}
 use Rattle.structure_check.specs.declared.sides.SideCondition.TheVariants.{Parents, ChildTypes, Valences, FirstPlaces, LastPlaces, OutersBefore, OutersBehind, ChildClaims}
 use Rattle.structure_check.specs.declared.corners.CornerCondition.TheVariants.{OneChange, SmallChange, GreaterOuter}

@@ -1,5 +1,5 @@
 -- Facts on numbers: one more index below a bound, and equal bits of signed numbers.
-use Rattle.std.proofs.Common.{◌≡◌, ◌∙◌, ℕ, suc, ◌+◌, ◌<◌, ◌≤◌, inl, inr, sym, ap, subst, ℤ, to_z, of_z, ◌*◌, ◌^◌, pos, ◌+ℤ◌, ◌*ℤ◌, FitsSigned, w8, w64, IsTrue, nat_eq, ◌↔◌, arith}
+use Rattle.std.proofs.Common.{◌≡◌, ◌∙◌, ℕ, ◌+◌, ◌<◌, ◌≤◌, inl, inr, sym, ap, subst, ℤ, to_z, of_z, ◌*◌, ◌^◌, pos, ◌+ℤ◌, ◌*ℤ◌, FitsSigned, w8, w64, IsTrue, nat_eq, ◌↔◌, arith}
 use Rattle.std.proofs.lemmas.Int.{ints, to_z-of_z, unsigned_abs-mul, fits_signed_from_abs}
 use Rattle.std.proofs.Math.Nat.{eq-or-lt_of_le, mul-le-mul}
 use Rattle.std.specs.Int.RustNames.{unsigned_abs}

@@ -1,11 +1,10 @@
 -- From what the checks find to conditions that hold below a number, and to the first broken place.
-use Rattle.std.proofs.Common.{◌≡◌, ℕ, suc, ◌<◌, ◌≤◌, ◌⊎◌, inl, inr, Bool, true, false, List, length, refl, subst, sym, arith, IsTrue}
-use Rattle.std.specs.Prelude.{MatchBool, nat_eq, ⊤}
+use Rattle.std.proofs.Common.{◌≡◌, ℕ, suc, ◌<◌, ◌≤◌, inl, inr, List, length, refl, subst, sym, arith}
 use Rattle.std.proofs.Math.Nat.{eq-or-lt_of_le}
 use Rattle.tile_model.specs.Tessellations.{TileKind}
 use Rattle.tree_model.specs.Automata.{TreeAutomaton, side_count}
-use Rattle.tree_model.specs.Conditions.{IsClosedTable, IsAccepted, AtEverySide, HasLimits, HasTables, HasFirstPlace, HasLastPlace}
-use Rattle.structure_check.specs.Broken.{IsPlace, IsBefore, IsFirstBroken, Holds, PartHolds, part_size}
+use Rattle.tree_model.specs.Conditions.{IsClosedTable, IsAccepted, AtEverySide}
+use Rattle.structure_check.specs.Broken.{IsPlace, IsFirstBroken, Holds, PartHolds, part_size}
 use Rattle.structure_check.specs.Search.{HoldBelow, PartsBelow, StatesBelow, SideHolds, IsSideReady, side_number, IsPartReady, part_number, CornerHolds, HasCorners, corner_number}
 use Rattle.structure_check.specs.declared.table.TablePart.{TablePart}
 use Rattle.structure_check.specs.declared.table.TablePart.TheVariants.{Limits, Roots, Offsets, Outers, Sizes, Targets}

@@ -88,6 +88,17 @@ fn threes(alloc: Global, rank: u32) -> Result<Vec<Corner>, AllocError> {
     Ok(corners)
 }
 
+// The least broken condition and its place, if there is one. What is accepted has both parts, and what is refused gives them back.
+fn first_broken(tess: Tessellation, a: Automaton) -> Option<(u8, u32, u8)> {
+    match check(tess, a) {
+        Ok(rules) => {
+            let (_tess, _a) = rules.into_parts();
+            None
+        }
+        Err((_tess, _a, broken)) => Some((broken.condition, broken.first, broken.second)),
+    }
+}
+
 #[test]
 fn finds_the_first_broken_place(rt: HostRuntime) -> Result<(), Fail> {
     let alloc = rt.alloc();
@@ -100,27 +111,17 @@ fn finds_the_first_broken_place(rt: HostRuntime) -> Result<(), Fail> {
         (4, 1, Parent, false, Some((2, 2, 2))),
     ];
     for (valence, place, rule, more, want) in cases {
-        let kinds = vec![in alloc; kind(alloc, 5, &[(0, 0)], &[valence])?]?;
         let mut corners = Vec::new(alloc);
         corners.push(corner(alloc, &[0, -1, -2, -1], (0, place), 0)?)?;
         if more {
             corners.push(corner(alloc, &[0, 0, -1], (0, 1), 0)?)?;
         }
+        let a = pentagons(alloc, rule, corners)?;
+        let kinds = vec![in alloc; kind(alloc, 5, &[(0, 0)], &[valence])?]?;
         let Ok(tess) = Tessellation::make(kinds) else {
             panic!(rt; "no tessellation");
         };
-        let got = match check(tess, pentagons(alloc, rule, corners)?) {
-            Ok(rules) => {
-                assert_eq!(rt; rules.tessellation().kinds(), 1);
-                assert_eq!(rt; rules.automaton().states.len(), 3);
-                None
-            }
-            Err((_, a, broken)) => {
-                assert_eq!(rt; a.states.len(), 3);
-                Some((broken.condition, broken.first, broken.second))
-            }
-        };
-        assert_eq!(rt; got, want);
+        assert_eq!(rt; first_broken(tess, a), want);
     }
     Ok(())
 }
@@ -179,45 +180,42 @@ fn heptagons_and_hexagons(alloc: Global) -> Result<Vec<State>, AllocError> {
     Ok(states)
 }
 
+// Rules with three tiles at each corner, of which the first corner type has this rank.
+fn three_at_a_corner(
+    alloc: Global,
+    states: Vec<State>,
+    roots: &[u32],
+    rank: u32,
+) -> Result<Automaton, AllocError> {
+    Ok(Automaton {
+        states,
+        corners: threes(alloc, rank)?,
+        roots: Vec::from_slice(alloc, roots)?,
+        scale: 2,
+    })
+}
+
 #[test]
 fn accepts_three_at_a_corner(rt: HostRuntime) -> Result<(), Fail> {
     let alloc = rt.alloc();
-    for (rank, kinds, want) in [(1, 1, None), (0, 1, Some((12, 1, 0))), (1, 2, None)] {
-        let mut list = Vec::new(alloc);
-        if kinds == 1 {
-            list.push(kind(alloc, 7, &[(0, 0)], &[3])?)?;
-        } else {
-            list.push(kind(alloc, 7, &[(1, 0)], &[3])?)?;
-            list.push(kind(alloc, 6, &[(0, 0), (1, 1)], &[3, 3])?)?;
-        }
-        let Ok(tess) = Tessellation::make(list) else {
+    for (rank, want) in [(1, None), (0, Some((12, 1, 0)))] {
+        let a = three_at_a_corner(alloc, heptagons(alloc)?, &[0], rank)?;
+        let kinds = vec![in alloc; kind(alloc, 7, &[(0, 0)], &[3])?]?;
+        let Ok(tess) = Tessellation::make(kinds) else {
             panic!(rt; "no tessellation");
         };
-        let states = if kinds == 1 {
-            heptagons(alloc)?
-        } else {
-            heptagons_and_hexagons(alloc)?
-        };
-        let roots = if kinds == 1 {
-            vec![in alloc; 0]?
-        } else {
-            vec![in alloc; 0, 1]?
-        };
-        let a = Automaton {
-            states,
-            corners: threes(alloc, rank)?,
-            roots,
-            scale: 2,
-        };
-        let got = match check(tess, a) {
-            Ok(rules) => {
-                let (tess, a) = rules.into_parts();
-                assert_eq!(rt; (tess.kinds(), a.scale), (kinds, 2));
-                None
-            }
-            Err((_, _, broken)) => Some(broken),
-        };
-        assert_eq!(rt; got.map(|b| (b.condition, b.first, b.second)), want);
+        assert_eq!(rt; first_broken(tess, a), want);
     }
+    let a = three_at_a_corner(alloc, heptagons_and_hexagons(alloc)?, &[0, 1], 1)?;
+    let mut kinds = vec![in alloc; kind(alloc, 7, &[(1, 0)], &[3])?]?;
+    kinds.push(kind(alloc, 6, &[(0, 0), (1, 1)], &[3, 3])?)?;
+    let Ok(tess) = Tessellation::make(kinds) else {
+        panic!(rt; "no tessellation");
+    };
+    let Ok(rules) = check(tess, a) else {
+        panic!(rt; "refused");
+    };
+    assert_eq!(rt; rules.tessellation().kinds(), 2);
+    assert_eq!(rt; rules.automaton().states.len(), 8);
     Ok(())
 }

@@ -1,4 +1,4 @@
-use Rattle.std.proofs.Common.{◌≡◌, ℕ, ◌<◌, List, length, ap, arith}
+use Rattle.std.proofs.Common.{◌<◌, length, ap, arith}
 use Rattle.tree_model.specs.Automata.{TreeAutomaton}
 use Rattle.structure_check.proofs.Places.{corner_fails, corners_hold}
 use Rattle.structure_check.proofs.corners.check_corners.Goals as goal

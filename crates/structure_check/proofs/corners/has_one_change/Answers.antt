@@ -1,4 +1,4 @@
-use Rattle.std.proofs.Common.{◌≡◌, ◌∙◌, suc, ◌-◌, ℤ, ◌-ℤ◌, FitsSigned, sym, add-one, rules}
+use Rattle.std.proofs.Common.{◌≡◌, ◌∙◌, suc, ◌-◌, ◌-ℤ◌, FitsSigned, sym, add-one, rules}
 use Rattle.tree_model.specs.Automata.{offset, outer, corner_valence}
 use mir.Syntax.{w16}
 use Rattle.structure_check.proofs.Numbers.{same_bits}

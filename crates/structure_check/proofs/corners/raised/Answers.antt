@@ -1,4 +1,4 @@
-use Rattle.std.proofs.Common.{◌≡◌, ℕ, ℤ, pos, ◌+ℤ◌, ◌*ℤ◌, FitsSigned, to_z, of_z, w8, w64, arith}
+use Rattle.std.proofs.Common.{◌≡◌, pos, to_z, of_z, w8, w64, arith}
 use Rattle.std.proofs.lemmas.Int.{ints, to_z-of_z}
 use Rattle.structure_check.proofs.Numbers.{fits_product, fits_raised}
 use Rattle.structure_check.proofs.corners.raised.Goals as goal

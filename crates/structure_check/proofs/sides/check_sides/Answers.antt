@@ -1,4 +1,4 @@
-use Rattle.std.proofs.Common.{◌≡◌, ℕ, ◌<◌, length, ap, arith}
+use Rattle.std.proofs.Common.{ℕ, ◌<◌, length, ap, arith}
 use Rattle.tree_model.specs.Automata.{TreeAutomaton, side_count}
 use Rattle.structure_check.specs.Search.{SideHolds}
 use Rattle.structure_check.proofs.Numbers.{below_more}
