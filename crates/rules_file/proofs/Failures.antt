@@ -1,5 +1,5 @@
 -- The first failure, part by part.
-use Rattle.std.proofs.Common.{◌≡◌, ℕ, zero, suc, ◌<◌, ◌≤◌, List, length, Some, codes, true, is_some, Result, Ok, Err, IsErrAnd, IfErr, refl, sym, ap, ◌∙◌, subst, arith, inl, inr, ◌⊎◌}
+use Rattle.std.proofs.Common.{◌≡◌, ℕ, zero, suc, ◌<◌, List, Some, codes, true, is_some, Result, Ok, Err, IsErrAnd, IfErr, refl, sym, ap, ◌∙◌, subst, arith, inl, inr, ◌⊎◌}
 use Rattle.serde_json.specs.Data.{Data, null, boolean, number, string, array, object, Items, no_items, item}
 use Rattle.serde_json.specs.Events.{items_len}
 use Rattle.serde_json.specs.Find.{get, get_item, as_object}
@@ -8,8 +8,8 @@ use Rattle.rules_file.specs.declared.fault.Part.TheVariants.{Whole, Version, Sca
 use Rattle.rules_file.specs.declared.fault.RulesFault.{RulesFault}
 use Rattle.rules_file.specs.declared.fault.RulesFault.TheVariants.{Memory}
 use Rattle.tree_model.specs.Automata.{TreeState, CornerType}
-use Rattle.rules_file.specs.Spelling.{whole, SpellsWord, SpellsCorner, SpellsState, SpellEach, SpellsArray, SpellsMember, IsFirstMisfit}
-use Rattle.rules_file.specs.Faults.{IsNoObject, HasNoArray, HasBadEntry, FailsAt, turn, IsFirstFault, Refuses, RefusesTable, no_memory, no_array, bad_entry}
+use Rattle.rules_file.specs.Spelling.{whole, SpellsWord, SpellsCorner, SpellsState, SpellsArray, SpellsMember, IsFirstMisfit}
+use Rattle.rules_file.specs.Faults.{IsNoObject, HasNoArray, HasBadEntry, FailsAt, turn, Refuses, RefusesTable, no_memory, no_array, bad_entry}
 use Rattle.rules_file.proofs.Entries.{entry_spells}
 
 -- no part whose turn is before n fails

@@ -4,3 +4,6 @@ pub mod Failures
 pub mod Sizes
 pub mod Floats
 pub mod Unique
+pub mod Canonical
+pub mod Writable
+pub mod Spelt

@@ -5,14 +5,13 @@ use Rattle.serde_json.specs.Data.{Data, null, boolean, number, string, array, ob
 use Rattle.serde_json.specs.Find.{get}
 use Rattle.tree_model.specs.declared.Rule.{Rule}
 use Rattle.tree_model.specs.declared.Rule.TheVariants.{Parent, Child, Left, Right}
-use Rattle.tree_model.specs.declared.Claim.{Claim}
-use Rattle.tree_model.specs.Automata.{TreeState, CornerType, TreeAutomaton}
+use Rattle.tree_model.specs.Automata.{TreeAutomaton}
 use Rattle.rules_file.specs.declared.fault.Part.{Part}
 use Rattle.rules_file.specs.declared.fault.Part.TheVariants.{Whole, Version, Scale, Roots, Corners, Corner, States, State}
 use Rattle.rules_file.specs.declared.fault.RulesFault.{RulesFault}
 use Rattle.rules_file.specs.declared.fault.RulesFault.TheVariants.{Syntax, Shape, Memory}
 use Rattle.serde_json.specs.Read.{read}
-use Rattle.rules_file.specs.Spelling.{whole, offset_json, rule_json, pair_json, SpellsByte, SpellsWord, SpellsOffset, SpellsRule, SpellsPair, SpellEach, SpellsArray, SpellsMember, SpellsCorner, SpellsState, SpellsTables, IsTextOf, IsRulesFile}
+use Rattle.rules_file.specs.Spelling.{offset_json, rule_json, pair_json, SpellsByte, SpellsWord, SpellsOffset, SpellsRule, SpellsPair, SpellEach, SpellsArray, SpellsMember, SpellsCorner, SpellsState, SpellsTables, IsTextOf, IsRulesFile}
 use Rattle.rules_file.specs.Faults.{IsNoObject, FailsAt, turn, IsFirstFault, Refuses}
 use Rattle.rules_file.proofs.Failures.{Cleared, cleared_scale, cleared_roots, cleared_corners, cleared_states}
 
@@ -201,3 +200,7 @@ misshapen_answer bytes d e (Err (Shape p j)) part i is ok err text fault =
     let same = one_first_fault d p part j i err (subst (λ u. IsFirstFault u part i) (same_value bytes d e is text) fault) in
     inl (ap₂ (λ q k. Err (Shape q k)) same.0 same.1)
 misshapen_answer bytes d e (Err Memory) part i is ok err text fault = inr refl
+
+pub file_exact : (bytes : List ℕ) (a b : TreeAutomaton) → IsRulesFile bytes a → IsRulesFile bytes b → a ≡ b
+file_exact bytes a b (d, text, spelt) (e, also, also_spelt) =
+    tables_exact d a b spelt (subst (λ u. SpellsTables u b) (same_value bytes d e text.value also) also_spelt)

@@ -1,7 +1,7 @@
 -- Rules files: how an automaton is written as JSON, and which JSON values spell it.
 use Rattle.std.specs.Prelude.{◌≡◌, ℕ, ◌^◌, ◌<◌, ℤ, List, [], ◌∷◌, ◌++◌, map, codes, Some, IsUtf8, FitsSigned, ⊤}
 use Rattle.std.specs.Int.{w8}
-use Rattle.serde_json.specs.Data.{Data, string, number, unsigned, array, object, Items, no_items, item, Members, no_members, member}
+use Rattle.serde_json.specs.Data.{Data, string, number, unsigned, array, object, Items, no_items, item, no_members, member}
 use Rattle.serde_json.specs.Find.{get, get_item, of_integer}
 use Rattle.serde_json.specs.View.{items_of}
 use Rattle.serde_json.specs.Read.{read}

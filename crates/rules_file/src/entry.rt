@@ -135,7 +135,10 @@ impl Entry for State {
 }
 
 /// The values that the entries spell, or the place of the first entry that spells none.
-pub(crate) fn read_each<T: Entry>(alloc: Global, entries: &[Value]) -> Result<Result<Vec<T>, usize>, AllocError>
+pub(crate) fn read_each<T: Entry>(
+    alloc: Global,
+    entries: &[Value],
+) -> Result<Result<Vec<T>, usize>, AllocError>
     ensures found { IfOk result (λ r. IfOk r (λ v. SpellEach T.spells (items_view entries.now) v.items)) }
     ensures misfit { IfOk result (λ r. IfErr r (IsFirstMisfit T.spells (items_view entries.now))) }
 {
@@ -161,7 +164,11 @@ pub(crate) fn array<'v>(json: &'v Value, name: &str) -> Option<&'v [Value]>
 }
 
 /// The value of a member, None where it is missing or spells none.
-pub(crate) fn member<T: Entry>(alloc: Global, json: &Value, name: &str) -> Result<Option<T>, AllocError>
+pub(crate) fn member<T: Entry>(
+    alloc: Global,
+    json: &Value,
+    name: &str,
+) -> Result<Option<T>, AllocError>
     ensures some { IfOk result (λ o. IfSome o (λ x. SpellsMember T.spells name.now (view json.now) x)) }
     ensures none { IfOk result (λ o. IfNone o ((x : T) → ¬ SpellsMember T.spells name.now (view json.now) x)) }
 {

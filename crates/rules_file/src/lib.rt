@@ -3,10 +3,12 @@
 
 mod entry;
 mod fault;
+mod laws;
 mod print;
 mod read;
 
 pub use fault::{Part, RulesFault};
+pub use laws::{canonical_text_law, one_automaton_law};
 pub use print::print_rules;
 pub use read::read_rules;
 

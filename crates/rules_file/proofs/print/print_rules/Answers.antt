@@ -1,6 +1,6 @@
 -- The value that is printed has no float.
-use Rattle.std.proofs.Common.{◌≡◌, ◌++◌, ◌∷◌, [], false, sym, subst, IfOk, ap, ◌∙◌}
-use Rattle.serde_json.specs.Written.{has_float, compact_text}
+use Rattle.std.proofs.Common.{ap, ◌∙◌}
+use Rattle.serde_json.specs.Written.{has_float}
 use Rattle.rules_file.proofs.Floats.{automaton_no_float}
 use Rattle.rules_file.proofs.print.print_rules.Goals as goal
 
