@@ -1,20 +1,20 @@
 -- The canonical text of a tessellation is a spelling of it.
-use Rattle.std.proofs.Common.{◌≡◌, ℕ, zero, suc, ◌+◌, ◌<◌, ◌≤◌, ◌^◌, ◌⊎◌, inl, inr, Bool, true, false, List, [], ◌∷◌, ◌++◌, length, get_or, map, refl, sym, ◌∙◌, ap, subst, arith, append_assoc, cond, codes, None, Some}
+use Rattle.std.proofs.Common.{◌≡◌, ℕ, suc, ◌+◌, ◌<◌, ◌≤◌, ◌^◌, inl, inr, Bool, true, false, List, [], ◌∷◌, ◌++◌, length, get_or, map, refl, sym, ◌∙◌, ap, subst, arith, append_assoc, cond, codes, None, Some}
 use Rattle.std.specs.Prelude.{Option, IsSome}
 use Rattle.std.specs.Option.{option_or}
 use Rattle.std.proofs.lemmas.List.{append-nil, length-map}
 use Rattle.std.proofs.lemmas.Bool.{cases_Bool}
-use Rattle.tile_model.specs.Tessellations.{TileKind, no_kind, kind_at, IsType, cross, valence as valence_of}
+use Rattle.tile_model.specs.Tessellations.{TileKind, kind_at, IsType, cross, valence as valence_of}
 use Rattle.tile_model.specs.Validity.{IsValid}
 use Rattle.tile_kinds.proofs.Types.{cross_at_type}
 use Rattle.tess_text.specs.declared.entry.Entry.{Entry}
-use Rattle.tess_text.specs.declared.entry.Entry.TheVariants.{Kind, Join, Corner}
+use Rattle.tess_text.specs.declared.entry.Entry.TheVariants.{Kind, Corner}
 use Rattle.tess_text.specs.Lines.{word_lines}
-use Rattle.tess_text.specs.Grammar.{entries, shapes, IsSide, is_same, partner, partner_in, valence, valence_in, head, IsGoodEnd, IsGoodAt}
+use Rattle.tess_text.specs.Grammar.{entries, shapes, IsSide, is_same, partner, valence, valence_in, head, IsGoodEnd, IsGoodAt}
 use Rattle.tess_text.specs.Spelling.{Spells, IsSpelling}
 use Rattle.tess_text.specs.Text.{is_before, kind_entries, partner_entries, join_entries, valence_entries, corner_entries, all_entries, entries_text, tess_text}
 use Rattle.tess_text.proofs.Entering.{shapes-push, partner-push, valence-push, same_pair}
-use Rattle.tess_text.proofs.Spaced.{IsSmall, AllSmall, entry_words, entry_lines, word_line}
+use Rattle.tess_text.proofs.Spaced.{AllSmall, entry_words, entry_lines, word_line}
 use Rattle.tess_text.proofs.GoodLines.{AllGood, good_append, entries_said, good_lines}
 use Rattle.tess_text.proofs.GoodEntries.{last_before, not_before, not_same, not_self, kind_before, not_kind_before, all_before, none_before, shape, small_append, side_of, type_of_side, repeat_small, kind_byte, residue_byte, Joins, Joined, partners_good}
 
@@ -87,9 +87,9 @@ module _ (kinds : List TileKind) (valid : IsValid kinds) where
       let is : kind ≡ kind_at kinds k = at 0 (omega arith) ∙ ap (λ (n : ℕ). kind_at kinds n) z in
       let size : length kind.partner ≡ (kind_at kinds k).repeat = ap (λ (x : TileKind). length x.partner) is ∙ (valid.repeat k lt).partners in
       let first = partners_good kinds valid k 0 kind.partner done j (λ i small.
-        let n : 0 + i ≡ i = omega arith in
-        let of_type : IsType kinds (k, i) = (lt, omega (arith, size)) in
-        rw n ((of_type, ap (λ (x : TileKind). get_or x.partner i (0, 0)) is ∙ sym (cross_at_type kinds (k, i) of_type)))) in
+      let n : 0 + i ≡ i = omega arith in
+      let of_type : IsType kinds (k, i) = (lt, omega (arith, size)) in
+      rw n ((of_type, ap (λ (x : TileKind). get_or x.partner i (0, 0)) is ∙ sym (cross_at_type kinds (k, i) of_type)))) in
       let m : 0 + length kind.partner ≡ (kind_at kinds k).repeat = omega (arith, size) in
       let joined : Joins kinds valid (done ++ partner_entries k 0 kind.partner) (k + 1, 0) = next_kind (done ++ partner_entries k 0 kind.partner) k (rw m at first.joins) in
       let second = joins_good (k + 1) rest (done ++ partner_entries k 0 kind.partner) joined (omega arith) (λ i small. at (suc i) (omega arith) ∙ ap (λ (n : ℕ). kind_at kinds n) (omega arith)) in
@@ -120,8 +120,8 @@ module _ (kinds : List TileKind) (valid : IsValid kinds) where
     shaped = shapes-push done (Corner k s v) ∙ append-nil (shapes done) ∙ j.shaped;
     joined = λ q of_type. partner-push done (Corner k s v) q ∙ ap (λ (o : Option (ℕ × ℕ)). option_or o None) (j.joined q of_type);
     told = λ q of_type before.
-      valence-push done (Corner k s v) q
-      ∙ corner_told v q (valence done q) (is_same q (k, s))
+        valence-push done (Corner k s v) q
+        ∙ corner_told v q (valence done q) (is_same q (k, s))
         (λ same. ap (λ (x : ℕ × ℕ). valence done x) (same_pair q (k, s) same) ∙ j.free (k, s) (not_self (k, s)))
         (λ same. is ∙ ap (λ (x : ℕ × ℕ). valence_of kinds x) (sym (same_pair q (k, s) same)))
         (λ other. elim (cases_Bool (is_before q (k, s))) [
@@ -129,9 +129,9 @@ module _ (kinds : List TileKind) (valid : IsValid kinds) where
           | inr fails ↦ absurd (cc (last_before q k s fails before, other))
         ]);
     free = λ q behind.
-      valence-push done (Corner k s v) q
-      ∙ ap (λ (o : Option ℕ). option_or o (valence_in (Corner k s v) q)) (j.free q (not_before q k s behind))
-      ∙ rw (not_same q k s behind) refl;
+        valence-push done (Corner k s v) q
+        ∙ ap (λ (o : Option ℕ). option_or o (valence_in (Corner k s v) q)) (j.free q (not_before q k s behind))
+        ∙ rw (not_same q k s behind) refl;
   }
 
   valences_good : (k s : ℕ) (vs : List ℕ) (done : List Entry) → Corners done (k, s) → ((i : ℕ) → i < length vs → IsType kinds (k, s + i) × (get_or vs i 0 ≡ valence_of kinds (k, s + i))) → Cornered done (valence_entries k s vs) (k, s + length vs)
@@ -169,9 +169,9 @@ module _ (kinds : List TileKind) (valid : IsValid kinds) where
       let is : kind ≡ kind_at kinds k = at 0 (omega arith) ∙ ap (λ (n : ℕ). kind_at kinds n) z in
       let size : length kind.valence ≡ (kind_at kinds k).repeat = ap (λ (x : TileKind). length x.valence) is ∙ (valid.repeat k lt).valences in
       let first = valences_good k 0 kind.valence done j (λ i small.
-        let n : 0 + i ≡ i = omega arith in
-        let of_type : IsType kinds (k, i) = (lt, omega (arith, size)) in
-        rw n ((of_type, ap (λ (x : TileKind). get_or x.valence i 0) is))) in
+      let n : 0 + i ≡ i = omega arith in
+      let of_type : IsType kinds (k, i) = (lt, omega (arith, size)) in
+      rw n ((of_type, ap (λ (x : TileKind). get_or x.valence i 0) is))) in
       let m : 0 + length kind.valence ≡ (kind_at kinds k).repeat = omega (arith, size) in
       let cornered : Corners (done ++ valence_entries k 0 kind.valence) (k + 1, 0) = next_corners (done ++ valence_entries k 0 kind.valence) k (rw m at first.corners) in
       let second = corners_good (k + 1) rest (done ++ valence_entries k 0 kind.valence) cornered (omega arith) (λ i small. at (suc i) (omega arith) ∙ ap (λ (n : ℕ). kind_at kinds n) (omega arith)) in

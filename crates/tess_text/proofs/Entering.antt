@@ -1,15 +1,15 @@
 -- Entering what a line says: when it is good, and what the tables hold afterwards.
-use Rattle.std.proofs.Common.{◌≡◌, ◌≢◌, ℕ, zero, suc, ◌+◌, ◌<◌, ◌≤◌, ◌⊎◌, inl, inr, Bool, true, false, ◌&&◌, List, [], ◌∷◌, ◌++◌, length, get_or, set, map, replicate, refl, sym, ◌∙◌, ap, ap₂, subst, arith, append_assoc, cond, None, Some}
-use Rattle.std.specs.Prelude.{◌==◌, ◌↔◌, Option, IsTrue, MatchBool}
+use Rattle.std.proofs.Common.{◌≡◌, ◌≢◌, ℕ, ◌<◌, ◌≤◌, inl, inr, Bool, true, false, List, [], ◌∷◌, ◌++◌, length, get_or, set, map, replicate, refl, sym, ◌∙◌, ap, subst, arith, cond, None, Some}
+use Rattle.std.specs.Prelude.{◌↔◌, Option, IsTrue, MatchBool}
 use Rattle.std.specs.Option.{option_or}
 use Rattle.std.proofs.lemmas.List.{get_or-set_same, get_or-set_other, length-set, length-map, length-append, length-replicate, map-append, append-nil, get_or_append_left, get_or-replicate}
 use Rattle.std.proofs.Math.ListN.{get_or-map, get_or-eq_default}
 use Rattle.std.proofs.Math.Seq.{map-set_same, get_or-append_seam}
-use Rattle.std.proofs.lemmas.Bool.{cases_eq, cases_lt, cases_Bool, false_from_ne_true}
+use Rattle.std.proofs.lemmas.Bool.{cases_eq, cases_lt, cases_Bool}
 use Rattle.std.proofs.lemmas.Bool.Decides.{nat_tests}
 use Rattle.tess_text.specs.declared.entry.Entry.{Entry}
 use Rattle.tess_text.specs.declared.entry.Entry.TheVariants.{Kind, Join, Corner}
-use Rattle.tess_text.specs.Grammar.{shapes, IsSide, is_same, partner_in, partner, valence_in, valence, IsUnjoined, IsUngiven, IsGoodEntry}
+use Rattle.tess_text.specs.Grammar.{shapes, is_same, partner_in, partner, valence_in, valence, IsUnjoined, IsUngiven, IsGoodEntry}
 use Rattle.tess_text.specs.Tables.{Table, blank, table_at, partner_at, valence_at, IsUnjoinedAt, IsUngivenAt, put_partner, put_valence, Hold}
 
 -- what a list of entries says with one entry more
@@ -208,16 +208,16 @@ hold_join tables es d e hold at_d at_e =
       partners = has2.partners;
       valences = has2.valences;
       joined = λ q.
-        partner_put first e d q kind residue
-        ∙ ap (λ (o : Option (ℕ × ℕ)). cond (is_same q e) (Some d) o) (partner_put tables d e q at_d.kind at_d.residue)
-        ∙ join_cases d e q (partner_at tables q) (is_same q d) (is_same q e) (same_pair q d) (same_pair q e)
+          partner_put first e d q kind residue
+          ∙ ap (λ (o : Option (ℕ × ℕ)). cond (is_same q e) (Some d) o) (partner_put tables d e q at_d.kind at_d.residue)
+          ∙ join_cases d e q (partner_at tables q) (is_same q d) (is_same q e) (same_pair q d) (same_pair q e)
           (λ same. ap (λ (p : ℕ × ℕ). partner_at tables p) (same_pair q d same) ∙ at_d.free)
           (λ same. ap (λ (p : ℕ × ℕ). partner_at tables p) (same_pair q e same) ∙ at_e.free)
-        ∙ ap (λ (o : Option (ℕ × ℕ)). option_or o (partner_in (Join d.0 d.1 e.0 e.1) q)) (hold.joined q)
-        ∙ sym (partner-push es (Join d.0 d.1 e.0 e.1) q);
+          ∙ ap (λ (o : Option (ℕ × ℕ)). option_or o (partner_in (Join d.0 d.1 e.0 e.1) q)) (hold.joined q)
+          ∙ sym (partner-push es (Join d.0 d.1 e.0 e.1) q);
       given = λ q.
-        valence_kept first e d q kind ∙ valence_kept tables d e q at_d.kind ∙ hold.given q
-        ∙ sym (valence-push es (Join d.0 d.1 e.0 e.1) q ∙ or_none (valence es q));
+          valence_kept first e d q kind ∙ valence_kept tables d e q at_d.kind ∙ hold.given q
+          ∙ sym (valence-push es (Join d.0 d.1 e.0 e.1) q ∙ or_none (valence es q));
     }
 
 -- the tables after a corner
@@ -229,13 +229,13 @@ hold_corner tables es d v hold at =
       partners = has.partners;
       valences = has.valences;
       joined = λ q.
-        partner_kept tables d q v at.kind ∙ hold.joined q
-        ∙ sym (partner-push es (Corner d.0 d.1 v) q ∙ or_none (partner es q));
+          partner_kept tables d q v at.kind ∙ hold.joined q
+          ∙ sym (partner-push es (Corner d.0 d.1 v) q ∙ or_none (partner es q));
       given = λ q.
-        valence_put tables d q v at.kind at.residue
-        ∙ corner_cases v (valence_at tables q) (is_same q d) (λ same. ap (λ (p : ℕ × ℕ). valence_at tables p) (same_pair q d same) ∙ at.free)
-        ∙ ap (λ (o : Option ℕ). option_or o (valence_in (Corner d.0 d.1 v) q)) (hold.given q)
-        ∙ sym (valence-push es (Corner d.0 d.1 v) q);
+          valence_put tables d q v at.kind at.residue
+          ∙ corner_cases v (valence_at tables q) (is_same q d) (λ same. ap (λ (p : ℕ × ℕ). valence_at tables p) (same_pair q d same) ∙ at.free)
+          ∙ ap (λ (o : Option ℕ). option_or o (valence_in (Corner d.0 d.1 v) q)) (hold.given q)
+          ∙ sym (valence-push es (Corner d.0 d.1 v) q);
     }
 
 -- the tables with a blank one more

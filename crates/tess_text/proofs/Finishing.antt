@@ -1,18 +1,17 @@
 -- The end of a file: which tables are full, and which kinds they then are.
-use Rattle.std.proofs.Common.{◌≡◌, ℕ, zero, suc, ◌+◌, ◌<◌, ◌≤◌, Bool, true, false, List, [], ◌∷◌, length, get_or, map, refl, sym, inl, inr, ◌∙◌, ap, subst, arith, None, Some, All}
+use Rattle.std.proofs.Common.{◌≡◌, ℕ, ◌<◌, Bool, true, false, List, [], ◌∷◌, length, get_or, map, refl, sym, inl, inr, ◌∙◌, ap, subst, arith, None, Some, All}
 use Rattle.std.specs.Prelude.{Option, Result, IsSome, IfOk, MatchOption, IsTrue, ◌↔◌}
 use Rattle.std.proofs.lemmas.Bool.{cases_eq}
 use Rattle.std.specs.declared.result.Result.TheVariants.{Ok, Err}
 use Rattle.std.proofs.lemmas.List.{length-map, get_or-map}
 use Rattle.std.proofs.Math.ListN.{get_or-map as map_at}
 use Rattle.std.proofs.lemmas.List.Elements.{All-from_get_or}
-use Rattle.std.proofs.lemmas.Bool.Decides.{nat_tests}
 use Rattle.tile_model.specs.Tessellations.{TileKind, no_kind, kind_at, IsType, cross, valence as valence_of}
 use Rattle.tile_kinds.proofs.Types.{cross_at_type}
 use Rattle.tess_text.specs.declared.entry.Entry.{Entry}
-use Rattle.tess_text.specs.Grammar.{entries, shapes, partner, valence, has_begun, IsSide, IsGoodEnd}
+use Rattle.tess_text.specs.Grammar.{entries, shapes, partner, valence, IsSide, IsGoodEnd}
 use Rattle.tess_text.specs.Spelling.{Spells}
-use Rattle.tess_text.specs.Tables.{Table, blank, table_at, partner_at, valence_at, table_of, IsFull, Hold, IsRead}
+use Rattle.tess_text.specs.Tables.{Table, blank, table_at, table_of, IsFull, Hold, IsRead}
 use Rattle.tess_text.proofs.Entering.{kinds_said, repeat_said}
 
 -- a list of which all has been said
@@ -89,9 +88,9 @@ full_at tables lines hold end k lt =
     let repeat = repeat_said tables es k hold in
     record {
       partners = All-from_get_or (λ p. IsSome p) (table_at tables k).partner None (λ s small.
-        subst (λ (o : Option (ℕ × ℕ)). IsSome o) (sym (hold.joined (k, s))) (end.joins (k, s) (kind, omega (arith, repeat, hold.partners k lt, small))));
+          subst (λ (o : Option (ℕ × ℕ)). IsSome o) (sym (hold.joined (k, s))) (end.joins (k, s) (kind, omega (arith, repeat, hold.partners k lt, small))));
       valences = All-from_get_or (λ v. IsSome v) (table_at tables k).valence None (λ s small.
-        subst (λ (o : Option ℕ). IsSome o) (sym (hold.given (k, s))) (end.corners (k, s) (kind, omega (arith, repeat, hold.valences k lt, small))));
+          subst (λ (o : Option ℕ). IsSome o) (sym (hold.given (k, s))) (end.corners (k, s) (kind, omega (arith, repeat, hold.valences k lt, small))));
     }
 
 pub full : (tables : List Table) (lines : List (List (List ℕ))) → Hold tables (entries lines) → IsGoodEnd lines → All IsFull tables

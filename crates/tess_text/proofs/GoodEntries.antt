@@ -1,21 +1,21 @@
 -- The entries of a valid tessellation are good, each after those before it, and they spell its kinds.
-use Rattle.std.proofs.Common.{◌≡◌, ℕ, zero, suc, ◌+◌, ◌<◌, ◌≤◌, ◌^◌, ◌⊎◌, inl, inr, Bool, true, false, List, [], ◌∷◌, ◌++◌, length, get_or, map, refl, sym, ◌∙◌, ap, subst, arith, append_assoc, cond, None, Some}
+use Rattle.std.proofs.Common.{◌≡◌, ℕ, suc, ◌+◌, ◌<◌, ◌≤◌, ◌^◌, ◌⊎◌, inl, inr, Bool, true, false, List, [], ◌∷◌, ◌++◌, length, get_or, map, refl, sym, ◌∙◌, ap, subst, arith, append_assoc, cond, None, Some}
 use Rattle.std.specs.Prelude.{Option, if◌then◌else◌}
 use Rattle.std.specs.Option.{option_or}
 use Rattle.std.proofs.lemmas.List.{append-nil, length-map}
 use Rattle.std.proofs.Math.ListN.{get_or-map}
 use Rattle.std.proofs.lemmas.Bool.{cases_Bool}
 use Rattle.std.proofs.lemmas.Bool.Decides.{nat_tests}
-use Rattle.tile_model.specs.Tessellations.{TileKind, no_kind, kind_at, IsType, cross, valence as valence_of}
+use Rattle.tile_model.specs.Tessellations.{TileKind, no_kind, kind_at, IsType, cross}
 use Rattle.tile_model.specs.Validity.{IsValid}
-use Rattle.tile_kinds.proofs.Types.{cross_at_type, repeat_at_most}
+use Rattle.tile_kinds.proofs.Types.{repeat_at_most}
 use Rattle.tess_text.specs.declared.entry.Entry.{Entry}
-use Rattle.tess_text.specs.declared.entry.Entry.TheVariants.{Kind, Join, Corner}
-use Rattle.tess_text.specs.Grammar.{shapes, IsSide, is_same, partner, partner_in, valence, valence_in, IsUnjoined, IsUngiven, IsGoodEntry}
-use Rattle.tess_text.specs.Text.{is_before, kind_entries, partner_entries, join_entries, valence_entries, corner_entries, all_entries}
+use Rattle.tess_text.specs.declared.entry.Entry.TheVariants.{Join}
+use Rattle.tess_text.specs.Grammar.{shapes, IsSide, is_same, partner, partner_in, valence}
+use Rattle.tess_text.specs.Text.{is_before, partner_entries}
 use Rattle.tess_text.proofs.Entering.{shapes-push, partner-push, valence-push, same_pair, same_self}
-use Rattle.tess_text.proofs.Spaced.{IsSmall, AllSmall}
-use Rattle.tess_text.proofs.GoodLines.{AllGood, good_append}
+use Rattle.tess_text.proofs.Spaced.{AllSmall}
+use Rattle.tess_text.proofs.GoodLines.{AllGood}
 
 -- the order of sides
 pub not_self : (d : ℕ × ℕ) → is_before d d ≡ false
@@ -133,8 +133,8 @@ module _ (kinds : List TileKind) (valid : IsValid kinds) where
       record {
         shaped = shapes-push done (the_join k s) ∙ append-nil (shapes done) ∙ j.shaped;
         told = λ q q_type before.
-          partner-push done (the_join k s) q
-          ∙ join_told (k, s) e q (partner done q) (is_same q (k, s)) (is_same q e)
+            partner-push done (the_join k s) q
+            ∙ join_told (k, s) e q (partner done q) (is_same q (k, s)) (is_same q e)
             (λ same. ap (λ (x : ℕ × ℕ). partner done x) (same_pair q (k, s) same) ∙ unjoined_first done k s j ahead)
             (λ same. ap (λ (x : ℕ × ℕ). cross kinds x) (sym (same_pair q (k, s) same)))
             (λ same. ap (λ (x : ℕ × ℕ). partner done x) (same_pair q e same) ∙ unjoined_second done k s j of_type ahead)
@@ -153,17 +153,17 @@ module _ (kinds : List TileKind) (valid : IsValid kinds) where
               ]
             ]);
         free = λ q first second.
-          let not_d = not_same q k s first in
-          let not_back = not_same (cross kinds q) k s second in
-          let not_e : is_same q e ≡ false = elim (cases_Bool (is_same q e)) [
-            | inl holds ↦
-                let at_d : is_same (cross kinds q) (k, s) ≡ true = subst (λ (x : ℕ × ℕ). is_same x (k, s) ≡ true) (sym back ∙ ap (λ (x : ℕ × ℕ). cross kinds x) (sym (same_pair q e holds))) (same_self (k, s)) in
-                absurd (cc (at_d, not_back))
-            | inr fails ↦ fails
-          ] in
-          partner-push done (the_join k s) q
-          ∙ ap (λ (o : Option (ℕ × ℕ)). option_or o (partner_in (the_join k s) q)) (j.free q (not_before q k s first) (not_before (cross kinds q) k s second))
-          ∙ rw (not_d, not_e) refl;
+            let not_d = not_same q k s first in
+            let not_back = not_same (cross kinds q) k s second in
+            let not_e : is_same q e ≡ false = elim (cases_Bool (is_same q e)) [
+              | inl holds ↦
+                  let at_d : is_same (cross kinds q) (k, s) ≡ true = subst (λ (x : ℕ × ℕ). is_same x (k, s) ≡ true) (sym back ∙ ap (λ (x : ℕ × ℕ). cross kinds x) (sym (same_pair q e holds))) (same_self (k, s)) in
+                  absurd (cc (at_d, not_back))
+              | inr fails ↦ fails
+            ] in
+            partner-push done (the_join k s) q
+            ∙ ap (λ (o : Option (ℕ × ℕ)). option_or o (partner_in (the_join k s) q)) (j.free q (not_before q k s first) (not_before (cross kinds q) k s second))
+            ∙ rw (not_d, not_e) refl;
         ungiven = λ q. valence-push done (the_join k s) q ∙ ap (λ (o : Option ℕ). option_or o None) (j.ungiven q);
       }
 

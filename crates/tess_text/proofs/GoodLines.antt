@@ -1,15 +1,15 @@
 -- The lines of good entries are good.
-use Rattle.std.proofs.Common.{◌≡◌, ℕ, suc, ◌+◌, ◌<◌, ◌≤◌, ◌⊎◌, inl, inr, Bool, true, false, ◌||◌, List, [], ◌∷◌, ◌++◌, length, take, drop, get_or, map, refl, sym, ◌∙◌, ap, subst, arith, append_assoc, None, Some}
+use Rattle.std.proofs.Common.{◌≡◌, ℕ, suc, ◌<◌, ◌≤◌, inl, inr, Bool, true, ◌||◌, List, [], ◌∷◌, ◌++◌, length, take, get_or, map, refl, sym, ◌∙◌, ap, subst, arith, append_assoc, Some}
 use Rattle.std.specs.Prelude.{Option}
 use Rattle.std.specs.List.{cons_option}
 use Rattle.std.proofs.lemmas.List.{append-nil, length-append, take_at}
 use Rattle.std.proofs.Math.Seq.{get_or-append_seam}
 use Rattle.std.proofs.lemmas.Bool.{cases_lt}
 use Rattle.tess_text.specs.declared.entry.Entry.{Entry}
-use Rattle.tess_text.specs.Lines.{word_lines, is_nonempty}
+use Rattle.tess_text.specs.Lines.{is_nonempty}
 use Rattle.tess_text.specs.Grammar.{entry, entries, has_begun, head, IsGoodEntry, IsGoodLine, IsGoodEnd, IsGoodAt}
 use Rattle.tess_text.proofs.Reading.{begun-push, entries_some}
-use Rattle.tess_text.proofs.Spaced.{IsSmall, AllSmall, entry_words, entry_of_words}
+use Rattle.tess_text.proofs.Spaced.{AllSmall, entry_words, entry_of_words}
 
 -- each entry is good after those done and those before it
 abbrev pub AllGood : List Entry → List Entry → Type 0
@@ -24,9 +24,9 @@ good_append done (e ∷ es) fs a b = (a.0, good_append (done ++ e ∷ []) es fs 
 line_at : (lines before more : List (List (List ℕ))) (line : List (List ℕ)) → lines ≡ before ++ line ∷ more → IsGoodLine before line → IsGoodAt lines (length before)
 line_at lines before more line is good = record {
   line = λ lt.
-    subst (λ (l : List (List (List ℕ))). IsGoodLine (take (length before) l) (get_or l (length before) [])) (sym is)
-    (subst (λ (l : List (List (List ℕ))). IsGoodLine l (get_or (before ++ line ∷ more) (length before) [])) (sym (take_at before (line ∷ more) (length before) refl))
-    (subst (λ (l : List (List ℕ)). IsGoodLine before l) (sym (get_or-append_seam before line more [])) good));
+      subst (λ (l : List (List (List ℕ))). IsGoodLine (take (length before) l) (get_or l (length before) [])) (sym is)
+      (subst (λ (l : List (List (List ℕ))). IsGoodLine l (get_or (before ++ line ∷ more) (length before) [])) (sym (take_at before (line ∷ more) (length before) refl))
+      (subst (λ (l : List (List ℕ)). IsGoodLine before l) (sym (get_or-append_seam before line more [])) good));
   end = λ last. absurd (omega (arith, ap (λ (l : List (List (List ℕ))). length l) is, length-append before (line ∷ more)));
 }
 

@@ -1,6 +1,6 @@
 -- Reading a number digit by digit.
-use Rattle.std.proofs.Common.{◌≡◌, ℕ, zero, suc, ◌+◌, ◌*◌, ◌-◌, ◌<◌, ◌≤◌, ◌⊎◌, inl, inr, Bool, true, false, ◌&&◌, List, [], ◌∷◌, length, drop, get_or, min, refl, sym, ◌∙◌, ap, subst, arith, cond, add-one, drop-cons, None, Some}
-use Rattle.std.specs.Prelude.{nat_lt, nat_le, Option, Result}
+use Rattle.std.proofs.Common.{◌≡◌, ℕ, ◌+◌, ◌*◌, ◌-◌, ◌<◌, ◌≤◌, inl, inr, true, false, List, [], ◌∷◌, length, drop, get_or, min, refl, sym, ◌∙◌, ap, arith, add-one, drop-cons, None, Some}
+use Rattle.std.specs.Prelude.{Option, Result}
 use Rattle.std.specs.declared.result.Result.TheVariants.{Ok, Err}
 use Rattle.std.specs.Result.{OkIff, result_ok}
 use Rattle.std.specs.List.{list_all}

@@ -1,5 +1,5 @@
 -- A file has one answer: no two first bad lines, no bad line where it is in the grammar, and no two lists of kinds that it spells.
-use Rattle.std.proofs.Common.{◌≡◌, ℕ, suc, ◌<◌, ◌≤◌, ◌⊎◌, inl, inr, List, [], length, get_or, map, refl, sym, ◌∙◌, ap, subst, arith, Some}
+use Rattle.std.proofs.Common.{◌≡◌, ℕ, suc, ◌<◌, ◌⊎◌, inl, inr, List, length, get_or, refl, sym, ◌∙◌, ap, subst, arith}
 use Rattle.std.specs.Prelude.{Result, IsErr, IfErr, MatchResult}
 use Rattle.std.specs.declared.result.Result.TheVariants.{Ok, Err}
 use Rattle.std.proofs.lemmas.List.{same_lists, get_or_default, length-map}
@@ -16,7 +16,7 @@ use Rattle.tess_text.specs.declared.entry.Entry.{Entry}
 use Rattle.tess_text.specs.declared.fault.TessFault.{TessFault}
 use Rattle.tess_text.specs.declared.fault.TessFault.TheVariants.{Line, Kinds, Memory}
 use Rattle.tess_text.specs.Lines.{word_lines}
-use Rattle.tess_text.specs.Grammar.{entries, shapes, partner, valence, IsInGrammar, IsFirstBadAt, IsFirstBadLine}
+use Rattle.tess_text.specs.Grammar.{entries, IsInGrammar, IsFirstBadAt, IsFirstBadLine}
 use Rattle.tess_text.specs.Spelling.{Spells, IsSpelling, IsRefused, IsFaultOf}
 
 -- one first bad line

@@ -1,5 +1,5 @@
 -- Reading the lines of a file one by one.
-use Rattle.std.proofs.Common.{◌≡◌, ◌≢◌, ℕ, zero, suc, ◌+◌, ◌<◌, ◌≤◌, ◌⊎◌, inl, inr, Bool, true, false, ◌||◌, List, [], ◌∷◌, ◌++◌, length, get_or, take, drop, map, refl, sym, ◌∙◌, ap, subst, arith, cond, None, Some}
+use Rattle.std.proofs.Common.{◌≡◌, ℕ, suc, ◌+◌, ◌<◌, ◌≤◌, inl, inr, Bool, true, false, ◌||◌, List, [], ◌∷◌, ◌++◌, length, get_or, take, drop, map, refl, sym, ◌∙◌, ap, subst, arith, None, Some}
 use Rattle.std.specs.Prelude.{Option, Result, IfOk, MatchBool, IsTrue, ◌↔◌}
 use Rattle.std.specs.declared.result.Result.TheVariants.{Ok, Err}
 use Rattle.tile_model.specs.Tessellations.{TileKind}
@@ -7,7 +7,7 @@ use Rattle.std.specs.List.{filter_map, cons_option}
 use Rattle.std.proofs.lemmas.List.{append-nil, length-drop, take_all}
 use Rattle.std.proofs.Math.Seq.{take-suc, drop-cons}
 use Rattle.std.proofs.lemmas.List.Elements.{filter_map-append}
-use Rattle.std.proofs.lemmas.Bool.{cases_eq, cases_lt}
+use Rattle.std.proofs.lemmas.Bool.{cases_lt}
 use Rattle.tess_text.specs.declared.entry.Entry.{Entry}
 use Rattle.tess_text.specs.Lines.{lines, content, words, word_lines, is_nonempty}
 use Rattle.tess_text.specs.Grammar.{entry, entries, has_begun, head, IsGoodEntry, IsGoodLine, IsGoodEnd, IsGoodAt, IsFirstBadAt, IsFirstBadLine}

@@ -1,5 +1,5 @@
 -- The reader's tables: of each kind what the lines so far have said of it.
-use Rattle.std.specs.Prelude.{◌≡◌, Bool, ℕ, ◌<◌, List, [], length, map, replicate, slice_index_or, slice_set, Option, All, IsSome}
+use Rattle.std.specs.Prelude.{◌≡◌, Bool, ℕ, ◌<◌, List, length, map, replicate, slice_index_or, slice_set, Option, All, IsSome}
 use Rattle.std.specs.declared.option.Option.TheVariants.{Some, None}
 use Rattle.tile_model.specs.Tessellations.{TileKind}
 use Rattle.tess_text.specs.declared.entry.Entry.{Entry}

@@ -1,3 +1,4 @@
+// What the lines of a text say of a tessellation.
 ghost use Rattle.std.specs.Prelude.{◌≡◌, ◌∷◌, [], List, ℕ, Option, map, IfSome, IfNone};
 ghost use Rattle.std.specs.declared.option.Option.TheVariants.{Some};
 ghost use Rattle.tess_text.specs.Lines.{words};

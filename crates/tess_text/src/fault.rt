@@ -1,5 +1,5 @@
 // Why a text is refused.
-use std::alloc::{AllocError};
+use std::alloc::AllocError;
 use thiserror::Error;
 use tile_kinds::KindFault;
 

@@ -21,9 +21,7 @@ fn is_head(word: &[u8], fields: &[u8]) -> bool
 {
     match next_word(fields) {
         Some((version, rest)) => {
-            word == b"tess".as_slice()
-                && version == b"1".as_slice()
-                && next_word(rest).is_none()
+            word == b"tess".as_slice() && version == b"1".as_slice() && next_word(rest).is_none()
         }
         None => false,
     }

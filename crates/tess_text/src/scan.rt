@@ -1,3 +1,4 @@
+// Cutting a text into lines, and a line into words.
 ghost use Rattle.std.specs.Prelude.{◌≡◌, ◌+◌, ◌<◌, ◌==◌, ◌∷◌, [], List, ℕ, length, drop, IfSome, MatchOption};
 ghost use Rattle.std.specs.List.{position_or_len, before_first, after_first};
 ghost use Rattle.tess_text.specs.Lines.{lines, content, is_separator, words};

@@ -10,7 +10,8 @@ use tile_kinds::{DartType, KindFault};
 const PENTAGONS: &[u8] = b"tess 1\nkind 0 5 1\njoin 0 0 0 0\ncorner 0 0 4\n";
 
 // heptagons and hexagons, three tiles round each corner
-const HEPTAGONS: &[u8] = b"tess 1\nkind 0 7 1\nkind 1 6 2\njoin 0 0 1 0\njoin 1 1 1 1\ncorner 0 0 3\ncorner 1 0 3\ncorner 1 1 3\n";
+const HEPTAGONS: &[u8] =
+    b"tess 1\nkind 0 7 1\nkind 1 6 2\njoin 0 0 1 0\njoin 1 1 1 1\ncorner 0 0 3\ncorner 1 0 3\ncorner 1 1 3\n";
 
 // Whether a text is read and printed as this one.
 fn prints_as(alloc: Global, text: &[u8], printed: &[u8]) -> bool

@@ -1,4 +1,4 @@
-use Rattle.std.proofs.Common.{◌≡◌, take, arith}
+use Rattle.std.proofs.Common.{take}
 use Rattle.tess_text.specs.Lines.{word_lines}
 use Rattle.tess_text.proofs.Reading.{stops, goes_on, read_all, end_spells, end_stops}
 use Rattle.tess_text.proofs.read.read_kinds.Goals as goal

@@ -1,7 +1,5 @@
-use Rattle.std.proofs.Common.{◌≡◌, List, ◌∙◌, refl, sym, subst, rules, arith, IfErr}
-use Rattle.std.proofs.lemmas.Grind.{common_steps}
-use Rattle.tile_model.specs.Tessellations.{TileKind}
-use Rattle.tess_text.specs.Spelling.{IsSpelling, IsRefused, IsFaultOf}
+use Rattle.std.proofs.Common.{◌∙◌, refl, rules, IfErr}
+use Rattle.tess_text.specs.Spelling.{IsRefused, IsFaultOf}
 use Rattle.tess_text.proofs.OneAnswer.{spelling_same, only_memory, only_fault, not_refused, err_memory, err_fault}
 use Rattle.tess_text.proofs.read.read_tess.Goals as goal
 

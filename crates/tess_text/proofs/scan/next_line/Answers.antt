@@ -1,4 +1,4 @@
-use Rattle.std.proofs.Common.{◌≡◌, arith}
+use Rattle.std.proofs.Common.{arith}
 use Rattle.std.proofs.lemmas.Bool.Decides.{nat_tests}
 use Rattle.tess_text.proofs.Cutting.{lines_cut}
 use Rattle.tess_text.proofs.scan.next_line.Goals as goal

@@ -1,4 +1,4 @@
-use Rattle.std.proofs.Common.{◌≡◌, ◌<◌, length, sym, ◌∙◌, arith}
+use Rattle.std.proofs.Common.{arith}
 use Rattle.std.proofs.lemmas.Bool.Decides.{nat_tests}
 use Rattle.tess_text.proofs.Cutting.{word_first, word_later, words_none}
 use Rattle.tess_text.proofs.scan.next_word.Goals as goal

@@ -1,7 +1,6 @@
-use Rattle.std.proofs.Common.{◌≡◌, ℕ, ◌+◌, drop}
+use Rattle.std.proofs.Common.{◌≡◌, ◌+◌, drop}
 use Rattle.std.specs.Prelude.{◌==◌}
 use Rattle.std.specs.List.{position_or_len}
-use Rattle.tess_text.specs.Lines.{is_separator}
 use Rattle.tess_text.proofs.scan.place_of.Given as goal
 
 abbrev pub invariant-loop-place : goal.invariant-loop-place

@@ -1,4 +1,3 @@
-use Rattle.std.proofs.Common.{◌≡◌, sym, arith}
 use Rattle.tess_text.proofs.Finishing.{finished_result, some_from}
 use Rattle.tess_text.proofs.read.Reader.finish.Goals as goal
 

@@ -1,5 +1,4 @@
-use Rattle.std.proofs.Common.{◌≡◌, List, ℕ, ◌<◌, ◌∷◌, [], length, ◌∙◌, ap, sym, arith}
-use Rattle.std.proofs.lemmas.Bool.Decides.{nat_tests}
+use Rattle.std.proofs.Common.{◌≡◌, List, ℕ, ◌<◌, ◌∷◌, length, ◌∙◌, ap, sym, arith}
 use Rattle.tess_text.specs.Lines.{content, words}
 use Rattle.tess_text.specs.Grammar.{entry, entries}
 use Rattle.tess_text.proofs.Reading.{read_blank, read_first_result, read_entry_result}

@@ -1,5 +1,5 @@
-use Rattle.std.proofs.Common.{◌≡◌, arith}
-use Rattle.tess_text.proofs.Entering.{entered_kind, entered_join, entered_corner, no_kind}
+use Rattle.std.proofs.Common.{arith}
+use Rattle.tess_text.proofs.Entering.{entered_kind, entered_join, entered_corner}
 use Rattle.tess_text.proofs.tables.Tables.enter.Goals as goal
 
 pub returns-in_ok-push-in-Kind : goal.returns-in_ok-push-in-Kind
