@@ -2,6 +2,7 @@
 #![tactic(auto)]
 
 mod answer;
+mod decide;
 mod load;
 mod status;
 mod words;

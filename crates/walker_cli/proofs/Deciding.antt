@@ -1,0 +1,185 @@
+-- From what the files hold to the answer that is due.
+use Rattle.std.proofs.Common.{◌≡◌, ℕ, ◌<◌, ◌≤◌, List, Option, Result, Ok, Err, MatchResult, length, refl, sym, ◌∙◌, ap, subst, arith}
+use Rattle.std.specs.Str.Parse.{digits_value}
+use Rattle.tile_model.specs.declared.Letter.{Letter}
+use Rattle.tile_model.specs.Tessellations.{TileKind}
+use Rattle.tile_model.specs.Validity.{IsValid}
+use Rattle.tile_model.specs.Walks.{type_of}
+use Rattle.tile_kinds.specs.declared.fault.KindFault.{KindFault}
+use Rattle.tree_model.specs.Automata.{TreeAutomaton}
+use Rattle.tree_model.specs.Conditions.{IsAccepted}
+use Rattle.tess_text.specs.Grammar.{IsFirstBadLine}
+use Rattle.tess_text.specs.Spelling.{IsSpelling, IsRefused}
+use Rattle.serde_json.specs.Data.{Data}
+use Rattle.rules_file.specs.declared.fault.Part.{Part}
+use Rattle.rules_file.specs.Spelling.{IsTextOf, IsRulesFile}
+use Rattle.rules_file.specs.Faults.{IsFirstFault}
+use Rattle.structure_check.specs.Broken.{IsFirstBroken}
+use Rattle.walk_words.specs.Text.{walk_text}
+use Rattle.walker_cli.specs.declared.answer.Role.TheVariants.{Tess, Rules}
+use Rattle.walker_cli.specs.declared.answer.Answer.{Answer}
+use Rattle.walker_cli.specs.declared.answer.Answer.TheVariants.{LeadsTo, Accepted, Usage, FileTooLong, TessLine, TessKinds, RulesSyntax, RulesShape, Broken}
+use Rattle.walker_cli.specs.declared.load.Refusal.{Refusal}
+use Rattle.walker_cli.specs.declared.load.Refusal.TheVariants.{Answered, Failed, Memory}
+use Rattle.walker_cli.specs.Tasks.{Task, TellType, CheckRules, IsKindForm, Ask, tess_of, LacksKind}
+use Rattle.walker_cli.specs.Held.{Loaded, Refused, Outcome, Holds, HoldsTooMany, IsTess, IsRules, tess_limit, rules_limit, tess_too_long, tess_line, tess_kinds, tess_loaded, rules_too_long, rules_syntax, rules_shape, rules_broken, rules_loaded}
+use Rattle.walker_cli.specs.Due.{Call, IsDue, no_form, no_tess, no_kind, type_told, no_rules, rules_accepted}
+use Rattle.walker_cli.specs.Loading.{IsRefusedAs, IsOfOutside, IsDueOf, ComesTo}
+use Rattle.walk_words.proofs.Codes.{one_walk}
+
+-- what a refusal that tells of the outside is taken for
+pub outside_comes : (answer : Answer) (refusal : Refusal) → IsOfOutside refusal → IsRefusedAs answer refusal
+outside_comes answer (Answered other) outside = absurd outside
+outside_comes answer (Failed role) outside = tt
+outside_comes answer Memory outside = tt
+
+pub refusal_due : (call : Call) (refusal : Refusal) → ((answer : Answer) → refusal ≡ Answered answer → IsDue call answer) → IsDueOf call (Err refusal)
+refusal_due call (Answered answer) due = due answer refl
+refusal_due call (Failed role) due = tt
+refusal_due call Memory due = tt
+
+-- words ask for one task
+pub one_task : (words : List (List ℕ)) (task other : Task) → Ask words task → Ask words other → task ≡ other
+one_task words (TellType tess k walk) (TellType tess' k' walk') one two =
+    let same_tess : tess ≡ tess' = cc (one.spelled, two.spelled) in
+    let digits : one.digits ≡ two.digits = cc (one.spelled, two.spelled) in
+    let text : walk_text walk ≡ walk_text walk' = cc (one.spelled, two.spelled) in
+    let same_kind : k ≡ k' = sym one.number.value ∙ ap (λ (l : List ℕ). digits_value 10 l) digits ∙ two.number.value in
+    cc (same_tess, same_kind, one_walk walk walk' text)
+one_task words (TellType tess k walk) (CheckRules tess' rules') one two = absurd (cc (one.spelled, two))
+one_task words (CheckRules tess rules) (TellType tess' k' walk') one two = absurd (cc (one, two.spelled))
+one_task words (CheckRules tess rules) (CheckRules tess' rules') one two = cc (one, two)
+
+-- what is known of the tessellation that is read from a file, or of the refusal
+pub record TessRead {T : Type 0} (contents : List ℕ → Option (List ℕ)) (file : List ℕ) (view : T → List TileKind) (r : Result T Refusal) : Type 0 where
+  pub too_long : HoldsTooMany contents file tess_limit → MatchResult r (λ _. ⊥) (IsRefusedAs (FileTooLong Tess))
+  pub bad_line : (bytes : List ℕ) (n : ℕ) → Holds contents file tess_limit bytes → IsFirstBadLine bytes n → MatchResult r (λ _. ⊥) (IsRefusedAs (TessLine n))
+  pub bad_kinds : (bytes : List ℕ) (fault : KindFault) → Holds contents file tess_limit bytes → IsRefused bytes fault → MatchResult r (λ _. ⊥) (IsRefusedAs (TessKinds fault))
+  pub loaded : (bytes : List ℕ) (kinds : List TileKind) → Holds contents file tess_limit bytes → IsSpelling bytes kinds → IsValid kinds → MatchResult r (λ t. view t ≡ kinds) IsOfOutside
+
+-- what it is where the file comes to this outcome
+abbrev pub TessComes : {T : Type 0} → (T → List TileKind) → Result T Refusal → Outcome (List TileKind) → Type 0
+TessComes view r (Loaded kinds) = MatchResult r (λ t. view t ≡ kinds) IsOfOutside
+TessComes view r (Refused answer) = MatchResult r (λ _. ⊥) (IsRefusedAs answer)
+
+pub tess_comes : {T : Type 0} (contents : List ℕ → Option (List ℕ)) (file : List ℕ) (view : T → List TileKind) (r : Result T Refusal) → TessRead contents file view r → {outcome : Outcome (List TileKind)} → IsTess contents file outcome → TessComes view r outcome
+tess_comes contents file view r known (tess_too_long long) = known.too_long long
+tess_comes contents file view r known (tess_line bytes n holds bad) = known.bad_line bytes n holds bad
+tess_comes contents file view r known (tess_kinds bytes fault holds bad) = known.bad_kinds bytes fault holds bad
+tess_comes contents file view r known (tess_loaded bytes kinds holds spelling valid) = known.loaded bytes kinds holds spelling valid
+
+-- the rows of the table for words that ask for a type
+pub data KindRow (call : Call) (tess : List ℕ) (k : ℕ) (walk : List Letter) : Answer → Type 0 where
+  kind_refused : (answer : Answer) → IsTess call.contents tess (Refused answer) → KindRow call tess k walk answer
+  kind_lacking : (kinds : List TileKind) → IsTess call.contents tess (Loaded kinds) → length kinds ≤ k → KindRow call tess k walk Usage
+  kind_told : (kinds : List TileKind) → IsTess call.contents tess (Loaded kinds) → k < length kinds → KindRow call tess k walk (LeadsTo (type_of kinds (k, 0) walk))
+
+pub kind_row : (call : Call) (tess : List ℕ) (k : ℕ) (walk : List Letter) → Ask call.words (TellType tess k walk) → {answer : Answer} → IsDue call answer → KindRow call tess k walk answer
+kind_row call tess k walk ask (no_form none) = absurd (none (TellType tess k walk) ask)
+kind_row call tess k walk ask (no_tess task answer other is) =
+    let same = one_task call.words task (TellType tess k walk) other ask in
+    kind_refused answer (subst (λ (t : Task). IsTess call.contents (tess_of t) (Refused answer)) same is)
+kind_row call tess k walk ask (no_kind task kinds other is lacks) =
+    let same = one_task call.words task (TellType tess k walk) other ask in
+    kind_lacking kinds (subst (λ (t : Task). IsTess call.contents (tess_of t) (Loaded kinds)) same is) (subst (λ (t : Task). LacksKind t (length kinds)) same lacks)
+kind_row call tess k walk ask (type_told tess' k' walk' kinds other is lt) =
+    let same = one_task call.words (TellType tess' k' walk') (TellType tess k walk) other ask in
+    let same_tess : tess' ≡ tess = cc same in
+    let same_kind : k' ≡ k = cc same in
+    let same_walk : walk' ≡ walk = cc same in
+    subst (λ (a : Answer). KindRow call tess k walk a) (λ i. LeadsTo (type_of kinds (sym same_kind i, 0) (sym same_walk i)))
+    (kind_told kinds (subst (λ (f : List ℕ). IsTess call.contents f (Loaded kinds)) same_tess is) (subst (λ (n : ℕ). n < length kinds) same_kind lt))
+kind_row call tess k walk ask (no_rules tess' rules kinds answer other is refused) = absurd (cc (one_task call.words (CheckRules tess' rules) (TellType tess k walk) other ask))
+kind_row call tess k walk ask (rules_accepted tess' rules kinds a other is loaded) = absurd (cc (one_task call.words (CheckRules tess' rules) (TellType tess k walk) other ask))
+
+-- the three ways in which telling a type ends
+pub kind_unread : {T : Type 0} (call : Call) (tess : List ℕ) (k : ℕ) (walk : List Letter) (view : T → List TileKind) (refusal : Refusal) → TessRead {T = T} call.contents tess view (Err refusal) → {answer : Answer} → KindRow call tess k walk answer → IsRefusedAs answer refusal
+kind_unread call tess k walk view refusal known (kind_refused answer is) = tess_comes call.contents tess view (Err refusal) known is
+kind_unread call tess k walk view refusal known (kind_lacking kinds is lacks) = outside_comes Usage refusal (tess_comes call.contents tess view (Err refusal) known is)
+kind_unread call tess k walk view refusal known (kind_told kinds is lt) = outside_comes (LeadsTo (type_of kinds (k, 0) walk)) refusal (tess_comes call.contents tess view (Err refusal) known is)
+
+pub kind_missing : {T : Type 0} (call : Call) (tess : List ℕ) (k : ℕ) (walk : List Letter) (view : T → List TileKind) (t : T) → TessRead call.contents tess view (Ok t) → length (view t) ≤ k → {answer : Answer} → KindRow call tess k walk answer → Usage ≡ answer
+kind_missing call tess k walk view t known few (kind_refused answer is) = absurd (tess_comes call.contents tess view (Ok t) known is)
+kind_missing call tess k walk view t known few (kind_lacking kinds is lacks) = refl
+kind_missing call tess k walk view t known few (kind_told kinds is lt) =
+    let same : view t ≡ kinds = tess_comes call.contents tess view (Ok t) known is in
+    absurd (omega (arith, ap length same, few, lt))
+
+pub kind_leads : {T : Type 0} (call : Call) (tess : List ℕ) (k : ℕ) (walk : List Letter) (view : T → List TileKind) (t : T) → TessRead call.contents tess view (Ok t) → k < length (view t) → {answer : Answer} → KindRow call tess k walk answer → LeadsTo (type_of (view t) (k, 0) walk) ≡ answer
+kind_leads call tess k walk view t known lt (kind_refused answer is) = absurd (tess_comes call.contents tess view (Ok t) known is)
+kind_leads call tess k walk view t known lt (kind_lacking kinds is lacks) =
+    let same : view t ≡ kinds = tess_comes call.contents tess view (Ok t) known is in
+    absurd (omega (arith, ap length same, lacks, lt))
+kind_leads call tess k walk view t known lt (kind_told kinds is few) =
+    let same : view t ≡ kinds = tess_comes call.contents tess view (Ok t) known is in
+    λ i. LeadsTo (type_of (same i) (k, 0) walk)
+
+-- what is known of the rules that are read from a file, or of the refusal
+pub record RulesRead {T : Type 0} (contents : List ℕ → Option (List ℕ)) (kinds : List TileKind) (file : List ℕ) (view : T → TreeAutomaton) (r : Result T Refusal) : Type 0 where
+  pub too_long : HoldsTooMany contents file rules_limit → MatchResult r (λ _. ⊥) (IsRefusedAs (FileTooLong Rules))
+  pub no_text : (bytes : List ℕ) → Holds contents file rules_limit bytes → ((d : Data) → ¬ (IsTextOf bytes d)) → MatchResult r (λ _. ⊥) (IsRefusedAs RulesSyntax)
+  pub misshapen : (bytes : List ℕ) (d : Data) (part : Part) (i : ℕ) → Holds contents file rules_limit bytes → IsTextOf bytes d → IsFirstFault d part i → MatchResult r (λ _. ⊥) (IsRefusedAs (RulesShape part i))
+  pub broken : (bytes : List ℕ) (a : TreeAutomaton) (n first second : ℕ) → Holds contents file rules_limit bytes → IsRulesFile bytes a → IsFirstBroken kinds a n first second → MatchResult r (λ _. ⊥) (IsRefusedAs (Broken (record { condition = n; first = first; second = second })))
+  pub loaded : (bytes : List ℕ) (a : TreeAutomaton) → Holds contents file rules_limit bytes → IsRulesFile bytes a → IsAccepted kinds a → MatchResult r (λ t. view t ≡ a) IsOfOutside
+
+abbrev pub RulesCome : {T : Type 0} → (T → TreeAutomaton) → Result T Refusal → Outcome TreeAutomaton → Type 0
+RulesCome view r (Loaded a) = MatchResult r (λ t. view t ≡ a) IsOfOutside
+RulesCome view r (Refused answer) = MatchResult r (λ _. ⊥) (IsRefusedAs answer)
+
+pub rules_come : {T : Type 0} (contents : List ℕ → Option (List ℕ)) (kinds : List TileKind) (file : List ℕ) (view : T → TreeAutomaton) (r : Result T Refusal) → RulesRead contents kinds file view r → {outcome : Outcome TreeAutomaton} → IsRules contents kinds file outcome → RulesCome view r outcome
+rules_come contents kinds file view r known (rules_too_long long) = known.too_long long
+rules_come contents kinds file view r known (rules_syntax bytes holds none) = known.no_text bytes holds none
+rules_come contents kinds file view r known (rules_shape bytes d part index holds text first) = known.misshapen bytes d part index holds text first
+rules_come contents kinds file view r known (rules_broken bytes a n first second holds spelled broken) = known.broken bytes a n first second holds spelled broken
+rules_come contents kinds file view r known (rules_loaded bytes a holds spelled accepted) = known.loaded bytes a holds spelled accepted
+
+-- the rows of the table for words that ask for a check
+pub data CheckRow (call : Call) (tess rules : List ℕ) : Answer → Type 0 where
+  check_refused : (answer : Answer) → IsTess call.contents tess (Refused answer) → CheckRow call tess rules answer
+  check_broken : (kinds : List TileKind) (answer : Answer) → IsTess call.contents tess (Loaded kinds) → IsRules call.contents kinds rules (Refused answer) → CheckRow call tess rules answer
+  check_accepted : (kinds : List TileKind) (a : TreeAutomaton) → IsTess call.contents tess (Loaded kinds) → IsRules call.contents kinds rules (Loaded a) → CheckRow call tess rules (Accepted (length a.states) (length a.corners))
+
+pub check_row : (call : Call) (tess rules : List ℕ) → Ask call.words (CheckRules tess rules) → {answer : Answer} → IsDue call answer → CheckRow call tess rules answer
+check_row call tess rules ask (no_form none) = absurd (none (CheckRules tess rules) ask)
+check_row call tess rules ask (no_tess task answer other is) =
+    let same = one_task call.words task (CheckRules tess rules) other ask in
+    check_refused answer (subst (λ (t : Task). IsTess call.contents (tess_of t) (Refused answer)) same is)
+check_row call tess rules ask (no_kind task kinds other is lacks) =
+    let same = one_task call.words task (CheckRules tess rules) other ask in
+    absurd (subst (λ (t : Task). LacksKind t (length kinds)) same lacks)
+check_row call tess rules ask (type_told tess' k' walk' kinds other is lt) = absurd (cc (one_task call.words (TellType tess' k' walk') (CheckRules tess rules) other ask))
+check_row call tess rules ask (no_rules tess' rules' kinds answer other is refused) =
+    let same = one_task call.words (CheckRules tess' rules') (CheckRules tess rules) other ask in
+    let same_tess : tess' ≡ tess = cc same in
+    let same_rules : rules' ≡ rules = cc same in
+    check_broken kinds answer (subst (λ (f : List ℕ). IsTess call.contents f (Loaded kinds)) same_tess is) (subst (λ (f : List ℕ). IsRules call.contents kinds f (Refused answer)) same_rules refused)
+check_row call tess rules ask (rules_accepted tess' rules' kinds a other is loaded) =
+    let same = one_task call.words (CheckRules tess' rules') (CheckRules tess rules) other ask in
+    let same_tess : tess' ≡ tess = cc same in
+    let same_rules : rules' ≡ rules = cc same in
+    check_accepted kinds a (subst (λ (f : List ℕ). IsTess call.contents f (Loaded kinds)) same_tess is) (subst (λ (f : List ℕ). IsRules call.contents kinds f (Loaded a)) same_rules loaded)
+
+-- the three ways in which a check ends
+pub check_unread : {T : Type 0} (call : Call) (tess rules : List ℕ) (view : T → List TileKind) (refusal : Refusal) → TessRead {T = T} call.contents tess view (Err refusal) → {answer : Answer} → CheckRow call tess rules answer → IsRefusedAs answer refusal
+check_unread call tess rules view refusal known (check_refused answer is) = tess_comes call.contents tess view (Err refusal) known is
+check_unread call tess rules view refusal known (check_broken kinds answer is refused) = outside_comes answer refusal (tess_comes call.contents tess view (Err refusal) known is)
+check_unread call tess rules view refusal known (check_accepted kinds a is loaded) = outside_comes (Accepted (length a.states) (length a.corners)) refusal (tess_comes call.contents tess view (Err refusal) known is)
+
+pub check_failed : {T S : Type 0} (call : Call) (tess rules : List ℕ) (view : T → List TileKind) (t : T) (tables : S → TreeAutomaton) (refusal : Refusal) → TessRead call.contents tess view (Ok t) → RulesRead {T = S} call.contents (view t) rules tables (Err refusal) → {answer : Answer} → CheckRow call tess rules answer → IsRefusedAs answer refusal
+check_failed call tess rules view t tables refusal known read (check_refused answer is) = absurd (tess_comes call.contents tess view (Ok t) known is)
+check_failed call tess rules view t tables refusal known read (check_broken kinds answer is refused) =
+    let same : view t ≡ kinds = tess_comes call.contents tess view (Ok t) known is in
+    rules_come call.contents (view t) rules tables (Err refusal) read (subst (λ (ks : List TileKind). IsRules call.contents ks rules (Refused answer)) (sym same) refused)
+check_failed call tess rules view t tables refusal known read (check_accepted kinds a is loaded) =
+    let same : view t ≡ kinds = tess_comes call.contents tess view (Ok t) known is in
+    outside_comes (Accepted (length a.states) (length a.corners)) refusal (rules_come call.contents (view t) rules tables (Err refusal) read (subst (λ (ks : List TileKind). IsRules call.contents ks rules (Loaded a)) (sym same) loaded))
+
+pub check_passed : {T S : Type 0} (call : Call) (tess rules : List ℕ) (view : T → List TileKind) (t : T) (tables : S → TreeAutomaton) (s : S) → TessRead call.contents tess view (Ok t) → RulesRead call.contents (view t) rules tables (Ok s) → {answer : Answer} → CheckRow call tess rules answer → Accepted (length (tables s).states) (length (tables s).corners) ≡ answer
+check_passed call tess rules view t tables s known read (check_refused answer is) = absurd (tess_comes call.contents tess view (Ok t) known is)
+check_passed call tess rules view t tables s known read (check_broken kinds answer is refused) =
+    let same : view t ≡ kinds = tess_comes call.contents tess view (Ok t) known is in
+    absurd (rules_come call.contents (view t) rules tables (Ok s) read (subst (λ (ks : List TileKind). IsRules call.contents ks rules (Refused answer)) (sym same) refused))
+check_passed call tess rules view t tables s known read (check_accepted kinds a is loaded) =
+    let same : view t ≡ kinds = tess_comes call.contents tess view (Ok t) known is in
+    let one : tables s ≡ a = rules_come call.contents (view t) rules tables (Ok s) read (subst (λ (ks : List TileKind). IsRules call.contents ks rules (Loaded a)) (sym same) loaded) in
+    λ i. Accepted (length (one i).states) (length (one i).corners)
