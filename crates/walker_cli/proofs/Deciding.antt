@@ -1,5 +1,5 @@
 -- From what the files hold to the answer that is due.
-use Rattle.std.proofs.Common.{◌≡◌, ℕ, ◌<◌, ◌≤◌, List, Option, Result, Ok, Err, MatchResult, length, refl, sym, ◌∙◌, ap, subst, arith}
+use Rattle.std.proofs.Common.{◌≡◌, ℕ, ◌<◌, ◌≤◌, List, Option, Result, Ok, Err, IfOk, MatchResult, ◌⊎◌, inl, inr, length, refl, sym, ◌∙◌, ap, subst, arith}
 use Rattle.std.specs.Str.Parse.{digits_value}
 use Rattle.tile_model.specs.declared.Letter.{Letter}
 use Rattle.tile_model.specs.Tessellations.{TileKind}
@@ -16,15 +16,17 @@ use Rattle.rules_file.specs.Spelling.{IsTextOf, IsRulesFile}
 use Rattle.rules_file.specs.Faults.{IsFirstFault}
 use Rattle.structure_check.specs.Broken.{IsFirstBroken}
 use Rattle.walk_words.specs.Text.{walk_text}
+use Rattle.walker_cli.specs.declared.answer.Role.{Role}
 use Rattle.walker_cli.specs.declared.answer.Role.TheVariants.{Tess, Rules}
 use Rattle.walker_cli.specs.declared.answer.Answer.{Answer}
-use Rattle.walker_cli.specs.declared.answer.Answer.TheVariants.{LeadsTo, Accepted, Usage, FileTooLong, TessLine, TessKinds, RulesSyntax, RulesShape, Broken}
+use Rattle.walker_cli.specs.declared.answer.Answer.TheVariants.{LeadsTo, Accepted, Usage, FileFault, FileTooLong, TessLine, TessKinds, RulesSyntax, RulesShape, Broken}
 use Rattle.walker_cli.specs.declared.load.Refusal.{Refusal}
 use Rattle.walker_cli.specs.declared.load.Refusal.TheVariants.{Answered, Failed, Memory}
-use Rattle.walker_cli.specs.Tasks.{Task, TellType, CheckRules, IsKindForm, Ask, tess_of, LacksKind}
+use Rattle.walker_cli.specs.Tasks.{Task, TellType, CheckRules, Ask, HaveNoForm, tess_of, LacksKind}
 use Rattle.walker_cli.specs.Held.{Loaded, Refused, Outcome, Holds, HoldsTooMany, IsTess, IsRules, tess_limit, rules_limit, tess_too_long, tess_line, tess_kinds, tess_loaded, rules_too_long, rules_syntax, rules_shape, rules_broken, rules_loaded}
 use Rattle.walker_cli.specs.Due.{Call, IsDue, no_form, no_tess, no_kind, type_told, no_rules, rules_accepted}
-use Rattle.walker_cli.specs.Loading.{IsRefusedAs, IsOfOutside, IsDueOf, ComesTo}
+use Rattle.walker_cli.specs.Loading.{IsRefusedAs, IsOfOutside, IsDueOf, ComesTo, IsFileFault, IsDueOrFailed, Settles}
+use Rattle.std.specs.declared.alloc.AllocError.{AllocError}
 use Rattle.walk_words.proofs.Codes.{one_walk}
 
 -- what a refusal that tells of the outside is taken for
@@ -183,3 +185,54 @@ check_passed call tess rules view t tables s known read (check_accepted kinds a 
     let same : view t ≡ kinds = tess_comes call.contents tess view (Ok t) known is in
     let one : tables s ≡ a = rules_come call.contents (view t) rules tables (Ok s) read (subst (λ (ks : List TileKind). IsRules call.contents ks rules (Loaded a)) (sym same) loaded) in
     λ i. Accepted (length (one i).states) (length (one i).corners)
+
+-- what is known of a file holds of what the files held before they were last read
+pub rules_kept : {old new : List ℕ → Option (List ℕ)} → ((name : List ℕ) → new name ≡ old name) → (kinds : List TileKind) (file : List ℕ) (outcome : Outcome TreeAutomaton) → IsRules new kinds file outcome → IsRules old kinds file outcome
+rules_kept same kinds file outcome is = subst (λ (contents : List ℕ → Option (List ℕ)). IsRules contents kinds file outcome) (λ i name. same name i) is
+
+pub read_kept : {T : Type 0} {old new : List ℕ → Option (List ℕ)} → ((name : List ℕ) → new name ≡ old name) → (kinds : List TileKind) (file : List ℕ) (view : T → TreeAutomaton) (r : Result T Refusal) → RulesRead new kinds file view r → RulesRead old kinds file view r
+read_kept same kinds file view r known = subst (λ (contents : List ℕ → Option (List ℕ)). RulesRead contents kinds file view r) (λ i name. same name i) known
+
+-- words in no form are answered in one way
+pub formless : (call : Call) → HaveNoForm call.words → {answer : Answer} → IsDue call answer → answer ≡ Usage
+formless call none (no_form n) = refl
+formless call none (no_tess task answer ask is) = absurd (none task ask)
+formless call none (no_kind task kinds ask is lacks) = refl
+formless call none (type_told tess k walk kinds ask is lt) = absurd (none (TellType tess k walk) ask)
+formless call none (no_rules tess rules kinds answer ask is refused) = absurd (none (CheckRules tess rules) ask)
+formless call none (rules_accepted tess rules kinds a ask is loaded) = absurd (none (CheckRules tess rules) ask)
+
+-- an answer that tells of a file that could not be read comes from such a refusal
+pub settled_fault : (told : Result Answer Refusal) (r : Result Answer AllocError) (P : Type 0) → Settles told r → IfOk told (λ answer. IsFileFault answer → ⊥) → ((answer : Answer) → told ≡ Err (Answered answer) → IsFileFault answer → ⊥) → ((role : Role) → told ≡ Err (Failed role) → P) → IfOk r (λ answer. IsFileFault answer → P)
+settled_fault (Ok answer) r P is plain refused failed = subst (λ (x : Result Answer AllocError). IfOk x (λ a. IsFileFault a → P)) (sym is) (λ fault. absurd (plain fault))
+settled_fault (Err (Answered answer)) r P is plain refused failed = subst (λ (x : Result Answer AllocError). IfOk x (λ a. IsFileFault a → P)) (sym is) (λ fault. absurd (refused answer refl fault))
+settled_fault (Err (Failed role)) r P is plain refused failed = subst (λ (x : Result Answer AllocError). IfOk x (λ a. IsFileFault a → P)) (sym is) (λ fault. failed role refl)
+settled_fault (Err Memory) (Ok answer) P is plain refused failed = absurd (cc is)
+settled_fault (Err Memory) (Err e) P is plain refused failed = tt
+
+due_or_failed : (call : Call) (answer : Answer) → IsDue call answer → IsDueOrFailed call answer
+due_or_failed call (LeadsTo d) due = due
+due_or_failed call (Accepted states corners) due = due
+due_or_failed call Usage due = due
+due_or_failed call (FileFault role) due = tt
+due_or_failed call (FileTooLong role) due = due
+due_or_failed call (TessLine n) due = due
+due_or_failed call (TessKinds fault) due = due
+due_or_failed call RulesSyntax due = due
+due_or_failed call (RulesShape part index) due = due
+due_or_failed call (Broken at) due = due
+
+-- an answer that is due comes, unless a file could not be read
+pub settled_due : (call : Call) (told : Result Answer Refusal) (r : Result Answer AllocError) → Settles told r → IsDueOf call told → IfOk told (λ answer. IsFileFault answer → ⊥) → IfOk r (IsDueOrFailed call)
+settled_due call (Ok answer) r is due plain = subst (λ (x : Result Answer AllocError). IfOk x (IsDueOrFailed call)) (sym is) (due_or_failed call answer due)
+settled_due call (Err (Answered answer)) r is due plain = subst (λ (x : Result Answer AllocError). IfOk x (IsDueOrFailed call)) (sym is) (due_or_failed call answer due)
+settled_due call (Err (Failed role)) r is due plain = subst (λ (x : Result Answer AllocError). IfOk x (IsDueOrFailed call)) (sym is) tt
+settled_due call (Err Memory) (Ok answer) is due plain = absurd (cc is)
+settled_due call (Err Memory) (Err e) is due plain = tt
+
+pub settled_exact : (answer : Answer) (told : Result Answer Refusal) (r : Result Answer AllocError) → Settles told r → ComesTo answer told → IfOk r (λ other. (other ≡ answer) ⊎ IsFileFault other)
+settled_exact answer (Ok other) r is comes = subst (λ (x : Result Answer AllocError). IfOk x (λ o. (o ≡ answer) ⊎ IsFileFault o)) (sym is) (inl comes)
+settled_exact answer (Err (Answered other)) r is comes = subst (λ (x : Result Answer AllocError). IfOk x (λ o. (o ≡ answer) ⊎ IsFileFault o)) (sym is) (inl comes)
+settled_exact answer (Err (Failed role)) r is comes = subst (λ (x : Result Answer AllocError). IfOk x (λ o. (o ≡ answer) ⊎ IsFileFault o)) (sym is) (inr tt)
+settled_exact answer (Err Memory) (Ok other) is comes = absurd (cc is)
+settled_exact answer (Err Memory) (Err e) is comes = tt

@@ -1,5 +1,6 @@
 -- What the steps of a call come to, on the way to its answer.
-use Rattle.std.specs.Prelude.{◌≡◌, Result, Ok, Err, ⊤}
+use Rattle.std.specs.Prelude.{◌≡◌, ◌⊎◌, Result, Ok, Err, ⊤, IsErr}
+use Rattle.std.specs.declared.alloc.AllocError.{AllocError}
 use Rattle.walker_cli.specs.declared.answer.Answer.{Answer}
 use Rattle.walker_cli.specs.declared.answer.Answer.TheVariants.{FileFault}
 use Rattle.walker_cli.specs.declared.load.Refusal.{Refusal}
@@ -34,3 +35,15 @@ ComesTo answer (Err refusal) = IsRefusedAs answer refusal
 abbrev pub IsFileFault : Answer → Type 0
 IsFileFault (FileFault role) = ⊤
 IsFileFault _ = ⊥
+
+-- the answer is due, or tells of a file that could not be read
+abbrev pub IsDueOrFailed : Call → Answer → Type 0
+IsDueOrFailed call (FileFault role) = ⊤
+IsDueOrFailed call answer = IsDue call answer
+
+-- the answer that the steps came to, if they came to one
+abbrev pub Settles : Result Answer Refusal → Result Answer AllocError → Type 0
+Settles (Ok answer) r = r ≡ Ok answer
+Settles (Err (Answered answer)) r = r ≡ Ok answer
+Settles (Err (Failed role)) r = r ≡ Ok (FileFault role)
+Settles (Err Memory) r = IsErr r

@@ -15,7 +15,7 @@ ghost use Rattle.rules_file.specs.Spelling.{IsTextOf, IsRulesFile};
 ghost use Rattle.rules_file.specs.Faults.{IsFirstFault};
 ghost use Rattle.tree_model.specs.Conditions.{IsAccepted};
 ghost use Rattle.structure_check.specs.Broken.{IsFirstBroken};
-ghost use Rattle.walker_cli.specs.Loading.{IsRefusedAs, IsOfOutside};
+ghost use Rattle.walker_cli.specs.Loading.{IsRefusedAs, IsOfOutside, IsFileFault};
 
 use crate::answer::{Answer, Role};
 use rules_file::{RulesFault, read_rules};
@@ -58,6 +58,7 @@ fn fetch<F: Files>(
         → MatchResult result (λ b. b.items ≡ bytes) IsOfOutside }
     ensures too_many { IsTrue F.tells → HoldsTooMany (F.contents files.old) name.now limit
         → MatchResult result (λ _. ⊥) (IsRefusedAs (Answer.FileTooLong role)) }
+    ensures plain { (answer : Answer) → result ≡ Err (Refusal.Answered answer) → IsFileFault answer → ⊥ }
     ensures failed { (r : Role) → result ≡ Err (Refusal.Failed r) → Rose (F.fetch_faults files.old) (F.fetch_faults files.new) }
     ensures later { F.fetch_faults files.old ≤ F.fetch_faults files.new }
     ensures same { IsTrue F.tells → KeepsAll (F.contents files.old) (F.contents files.new) }
@@ -88,6 +89,7 @@ pub fn load_tess<F: Files>(
         → MatchResult result (λ _. ⊥) (IsRefusedAs (Answer.TessKinds fault)) }
     ensures loaded { IsTrue F.tells → (bytes : List ℕ) (kinds : List TileKind) → Holds (F.contents files.old) name.now tess_limit bytes → IsSpelling bytes kinds → IsValid kinds
         → MatchResult result (λ t. t ≡ kinds) IsOfOutside }
+    ensures plain { (answer : Answer) → result ≡ Err (Refusal.Answered answer) → IsFileFault answer → ⊥ }
     ensures failed { (r : Role) → result ≡ Err (Refusal.Failed r) → Rose (F.fetch_faults files.old) (F.fetch_faults files.new) }
     ensures later { F.fetch_faults files.old ≤ F.fetch_faults files.new }
     ensures same { IsTrue F.tells → KeepsAll (F.contents files.old) (F.contents files.new) }
@@ -124,6 +126,7 @@ pub fn load_rules<F: Files>(
         → MatchResult result (λ _. ⊥) (IsRefusedAs (Answer.Broken (record { condition = c; first = first; second = second }))) }
     ensures loaded { IsTrue F.tells → (bytes : List ℕ) (a : TreeAutomaton) → Holds (F.contents files.old) name.now rules_limit bytes → IsRulesFile bytes a → IsAccepted tess a
         → MatchResult result (λ r. r.automaton ≡ a) IsOfOutside }
+    ensures plain { (answer : Answer) → result ≡ Err (Refusal.Answered answer) → IsFileFault answer → ⊥ }
     ensures failed { (r : Role) → result ≡ Err (Refusal.Failed r) → Rose (F.fetch_faults files.old) (F.fetch_faults files.new) }
     ensures same { IsTrue F.tells → KeepsAll (F.contents files.old) (F.contents files.new) }
     ensures stores { F.store_faults files.new ≡ F.store_faults files.old }

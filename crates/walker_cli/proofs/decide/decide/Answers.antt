@@ -1,0 +1,19 @@
+use Rattle.std.proofs.Common.{Err, inl, sym, ap}
+use Rattle.walker_cli.specs.Due.{no_form}
+use Rattle.walker_cli.proofs.Deciding.{formless, settled_fault, settled_due, settled_exact}
+use Rattle.walker_cli.proofs.decide.decide.Goals as goal
+
+pub returns-in-Err-Usage-clause-due : goal.returns-in-Err-Usage-clause-due
+returns-in-Err-Usage-clause-due g c = λ told. no_form (c.in-Err-Usage.ensures.usage (ap Err c.in-Err-Usage.field-0-is))
+
+pub returns-in-Err-Usage-clause-exact : goal.returns-in-Err-Usage-clause-exact
+returns-in-Err-Usage-clause-exact g c = λ told answer due. inl (sym (formless _ (c.in-Err-Usage.ensures.usage (ap Err c.in-Err-Usage.field-0-is)) due))
+
+pub returns-clause-failed : goal.returns-clause-failed
+returns-clause-failed g c = settled_fault c.carry_out.result c.settle.result _ c.settle.ensures c.carry_out.ensures.no_fault c.carry_out.ensures.plain c.carry_out.ensures.failed
+
+pub returns-clause-due : goal.returns-clause-due
+returns-clause-due g c = λ told. settled_due _ c.carry_out.result c.settle.result c.settle.ensures (c.carry_out.ensures.due told _ c.in-Ok.ensures.ok) c.carry_out.ensures.no_fault
+
+pub returns-clause-exact : goal.returns-clause-exact
+returns-clause-exact g c = λ told answer due. settled_exact answer c.carry_out.result c.settle.result c.settle.ensures (c.carry_out.ensures.exact told _ answer c.in-Ok.ensures.ok due)
