@@ -4,11 +4,34 @@
 mod answer;
 mod decide;
 mod load;
+mod run;
 mod status;
+#[cfg(test)]
+mod tests;
 mod words;
 
+use std::alloc::Global;
 use std::process::ExitCode;
+use std::{env, io};
+use way_io::{FillSource, HostFiles, StdSink};
 
 fn main(rt: HostRuntime) -> ExitCode {
-    ExitCode::from(status::Status::Usage.code())
+    // Words that are not UTF-8 are in no form, as no words are.
+    let words = words_of(rt.alloc(), &rt).unwrap_or(Vec::new(rt.alloc()));
+    let mut files = HostFiles::new(&rt);
+    let mut input = FillSource::new(0, 0);
+    let mut out = StdSink::new(&rt);
+    let status = run::run(
+        rt.alloc(),
+        words.as_slice(),
+        &mut files,
+        &mut input,
+        &mut out,
+    );
+    ExitCode::from(status.code())
+}
+
+/// The words after the program's name.
+fn words_of(alloc: Global, rt: &HostRuntime) -> io::Result<Vec<String>> {
+    Ok(env::args(rt)?.skip(1).collect(alloc)?)
 }
