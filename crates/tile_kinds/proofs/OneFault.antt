@@ -1,8 +1,8 @@
 -- A list of kinds has at most one fault: the checks are numbered, so two faults are of one check, and then at one place.
-use Rattle.std.proofs.Common.{◌≡◌, ℕ, zero, suc, ◌<◌, ◌≤◌, List, length, refl, ap, ap₂, sym, ◌∙◌, subst, inl, inr, arith}
+use Rattle.std.proofs.Common.{◌≡◌, ℕ, zero, suc, ◌<◌, ◌≤◌, List, refl, ap₂, sym, ◌∙◌, subst, inl, inr, arith}
 use Rattle.std.proofs.lemmas.Bool.{cases_lt}
 use Rattle.std.proofs.Math.Nat.{eq-or-lt_of_le}
-use Rattle.tile_model.specs.Tessellations.{TileKind, IsType}
+use Rattle.tile_model.specs.Tessellations.{TileKind}
 use Rattle.tile_model.specs.Validity.{HasCount, HasSides, HasRepeat, HasPartner, HasValence, IsInvolution, HasCorner}
 use Rattle.tile_kinds.specs.declared.fault.KindFault.{KindFault}
 use Rattle.tile_kinds.specs.declared.fault.KindFault.TheVariants.{Count, Sides, Repeat, Partner, Valence, Involution, Corner}
@@ -121,8 +121,8 @@ one_type : {Has : List TileKind → ℕ × ℕ → Type 0} (kinds : List TileKin
 one_type {Has} kinds d e at_d at_e =
     let kinds_same = same_number d.0 e.0 (λ less. at_d.fails (at_e.lower_kinds d at_d.is_type less)) (λ less. at_e.fails (at_d.lower_kinds e at_e.is_type less)) in
     let residues_same = same_number d.1 e.1
-        (λ less. at_d.fails (subst (λ k. Has kinds (k, d.1)) (sym kinds_same) (at_e.lower_residues d.1 less)))
-        (λ less. at_e.fails (subst (λ k. Has kinds (k, e.1)) kinds_same (at_d.lower_residues e.1 less))) in
+    (λ less. at_d.fails (subst (λ k. Has kinds (k, d.1)) (sym kinds_same) (at_e.lower_residues d.1 less)))
+    (λ less. at_e.fails (subst (λ k. Has kinds (k, e.1)) kinds_same (at_d.lower_residues e.1 less))) in
     ap₂ (λ k s. (k, s)) kinds_same residues_same
 
 one_place : (kinds : List TileKind) (n : ℕ) (d e : ℕ × ℕ) → IsLeast kinds n d → IsLeast kinds n e → d ≡ e

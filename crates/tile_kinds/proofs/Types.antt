@@ -1,7 +1,7 @@
 -- The moves at a type, where they are what their names say, and the bounds of a type's numbers.
 use Rattle.std.proofs.Common.{◌≡◌, ℕ, ◌+◌, ◌-◌, ◌%◌, ◌<◌, ◌≤◌, List, length, slice_index_or, refl, add-one, arith}
 use Rattle.std.proofs.Math.Nat.{mod-eq_of_lt}
-use Rattle.tile_model.specs.Tessellations.{TileKind, kind_at, IsType, is_type, left, right, cross, around, around_times}
+use Rattle.tile_model.specs.Tessellations.{TileKind, kind_at, IsType, left, right, cross, around, around_times}
 use Rattle.tile_kinds.specs.Faults.{IsSized}
 
 pub left_at_type : (kinds : List TileKind) (d : ℕ × ℕ) → IsType kinds d → left kinds d ≡ (d.0, (d.1 + 1) % (kind_at kinds d.0).repeat)

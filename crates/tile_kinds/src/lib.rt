@@ -10,3 +10,6 @@ mod tessellation;
 pub use fault::KindFault;
 pub use kinds::{DartType, Kind};
 pub use tessellation::Tessellation;
+
+#[cfg(test)]
+mod tests;

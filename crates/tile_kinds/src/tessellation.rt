@@ -3,13 +3,12 @@ ghost use Rattle.std.specs.Prelude.{◌≡◌, ◌<◌, ◌≤◌, length, IsTru
 ghost use Rattle.tile_model.specs.Tessellations.{IsType, kind_at, left, right, cross, sides, valence};
 ghost use Rattle.tile_model.specs.Validity.{IsValid};
 
-use std::alloc::{AllocError, Global};
-use std::marker::Model;
-
 use crate::checks::fault;
 use crate::fault::KindFault;
 use crate::kinds::{DartType, Kind};
 use crate::moves::{cross_of, has_type, left_of, right_of, valence_of};
+use std::alloc::{AllocError, Global};
+use std::marker::Model;
 
 /// A tessellation: a list of kinds that has passed all checks.
 #[derive(Debug, Drop)]

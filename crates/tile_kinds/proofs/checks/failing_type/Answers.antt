@@ -1,5 +1,5 @@
 -- A type of a kind below the next is of the kind just tried, all whose residues pass, or of one below it.
-use Rattle.std.proofs.Common.{ℕ, ◌≡◌, ◌+◌, ◌<◌, ◌≤◌, inl, inr, arith}
+use Rattle.std.proofs.Common.{ℕ, ◌<◌, ◌≤◌, inl, inr, arith}
 use Rattle.std.proofs.Math.Nat.{eq-or-lt_of_le}
 use Rattle.tile_model.specs.Tessellations.{kind_at}
 use Rattle.tile_kinds.specs.Checks.{Passes}

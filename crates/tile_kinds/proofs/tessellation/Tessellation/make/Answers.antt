@@ -1,5 +1,5 @@
 -- A list with a fault is not valid, and has no other fault.
-use Rattle.std.proofs.Common.{◌≡◌, subst}
+use Rattle.std.proofs.Common.{subst}
 use Rattle.tile_kinds.specs.Faults.{IsFault}
 use Rattle.tile_kinds.proofs.Refused.{refuted}
 use Rattle.tile_kinds.proofs.OneFault.{one_fault}

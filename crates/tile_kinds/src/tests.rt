@@ -1,0 +1,175 @@
+// Tessellations made, refused, walked and copied, with values reckoned by hand.
+use crate::{DartType, Kind, KindFault, Tessellation};
+use std::alloc::{AllocError, Global};
+use std::test::Fail;
+
+fn kind(
+    alloc: Global,
+    sides: u8,
+    repeat: u8,
+    partner: &[(u8, u8)],
+    valence: &[u8],
+) -> Result<Kind, AllocError> {
+    Ok(Kind {
+        sides,
+        repeat,
+        partner: Vec::from_slice(alloc, partner)?,
+        valence: Vec::from_slice(alloc, valence)?,
+    })
+}
+
+fn dart(kind: u8, residue: u8) -> DartType {
+    DartType { kind, residue }
+}
+
+// Heptagons and hexagons, three tiles round each corner, with the hexagon given.
+fn heptagons_and(alloc: Global, hexagon: Kind) -> Result<Vec<Kind>, AllocError> {
+    let mut kinds = Vec::new(alloc);
+    kinds.push(kind(alloc, 7, 1, &[(1, 0)], &[3])?)?;
+    kinds.push(hexagon)?;
+    Ok(kinds)
+}
+
+#[test]
+fn moves_between_types(rt: HostRuntime) -> Result<(), Fail> {
+    let alloc = rt.alloc();
+    let hexagon = kind(alloc, 6, 2, &[(0, 0), (1, 1)], &[3, 3])?;
+    let mut kinds = heptagons_and(alloc, hexagon)?;
+    kinds.push(kind(alloc, 3, 3, &[(2, 0), (2, 1), (2, 2)], &[6, 6, 6])?)?;
+    let Ok(first) = Tessellation::make(kinds) else {
+        panic!(rt; "refused");
+    };
+    let t = first.copy(alloc)?;
+    assert_eq!(rt; t.kinds(), 3);
+    let cases = [
+        (dart(0, 0), dart(0, 0), dart(0, 0), dart(1, 0), 7, 3),
+        (dart(1, 0), dart(1, 1), dart(1, 1), dart(0, 0), 6, 3),
+        (dart(1, 1), dart(1, 0), dart(1, 0), dart(1, 1), 6, 3),
+        (dart(2, 0), dart(2, 1), dart(2, 2), dart(2, 0), 3, 6),
+        (dart(2, 2), dart(2, 0), dart(2, 1), dart(2, 2), 3, 6),
+    ];
+    for (d, left, right, cross, sides, valence) in cases {
+        if !t.has(d) {
+            panic!(rt; "no type {d:?}");
+        }
+        assert_eq!(rt; t.left(d), left, "left of {d:?}");
+        assert_eq!(rt; t.right(d), right, "right of {d:?}");
+        assert_eq!(rt; t.cross(d), cross, "across from {d:?}");
+        assert_eq!(rt; t.sides(d), sides, "sides at {d:?}");
+        assert_eq!(rt; t.valence(d), valence, "valence at {d:?}");
+    }
+    for d in [dart(0, 1), dart(1, 2), dart(3, 0)] {
+        assert!(rt; !t.has(d), "{d:?} is no type");
+    }
+    Ok(())
+}
+
+#[test]
+fn answers_the_first_fault(rt: HostRuntime) -> Result<(), Fail> {
+    let alloc = rt.alloc();
+    let cases = [
+        (
+            2,
+            2,
+            [(0, 0), (1, 1)],
+            [3, 3],
+            KindFault::Sides {
+                kind: 1,
+                residue: 0,
+            },
+        ),
+        (
+            65,
+            2,
+            [(0, 0), (1, 1)],
+            [3, 3],
+            KindFault::Sides {
+                kind: 1,
+                residue: 0,
+            },
+        ),
+        (
+            6,
+            4,
+            [(0, 0), (1, 1)],
+            [3, 3],
+            KindFault::Repeat {
+                kind: 1,
+                residue: 0,
+            },
+        ),
+        (
+            6,
+            3,
+            [(0, 0), (1, 1)],
+            [3, 3],
+            KindFault::Repeat {
+                kind: 1,
+                residue: 0,
+            },
+        ),
+        (
+            6,
+            2,
+            [(0, 0), (2, 0)],
+            [2, 3],
+            KindFault::Partner {
+                kind: 1,
+                residue: 1,
+            },
+        ),
+        (
+            6,
+            2,
+            [(1, 1), (1, 1)],
+            [3, 65],
+            KindFault::Valence {
+                kind: 1,
+                residue: 1,
+            },
+        ),
+        (
+            6,
+            2,
+            [(1, 1), (1, 1)],
+            [3, 4],
+            KindFault::Involution {
+                kind: 0,
+                residue: 0,
+            },
+        ),
+        (
+            6,
+            2,
+            [(0, 0), (1, 1)],
+            [3, 4],
+            KindFault::Corner {
+                kind: 1,
+                residue: 0,
+            },
+        ),
+        (
+            6,
+            2,
+            [(0, 0), (1, 1)],
+            [4, 4],
+            KindFault::Corner {
+                kind: 0,
+                residue: 0,
+            },
+        ),
+    ];
+    for (sides, repeat, partner, valence, want) in cases {
+        let hexagon = kind(alloc, sides, repeat, &partner, &valence)?;
+        let Err((kinds, fault)) = Tessellation::make(heptagons_and(alloc, hexagon)?) else {
+            panic!(rt; "accepted in place of {want:?}");
+        };
+        assert_eq!(rt; fault, want);
+        assert_eq!(rt; kinds.len(), 2);
+    }
+    let Err((_, fault)) = Tessellation::make(Vec::new(alloc)) else {
+        panic!(rt; "accepted no kinds");
+    };
+    assert_eq!(rt; fault, KindFault::Count);
+    Ok(())
+}
