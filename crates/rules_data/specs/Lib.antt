@@ -1,0 +1,1 @@
+-- Definitions of this crate: none, its contracts speak of automata as tree_model has them.

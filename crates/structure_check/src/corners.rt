@@ -1,0 +1,119 @@
+// The conditions on corner types, which make the crossing by brackets end.
+ghost use Rattle.std.specs.Prelude.{◌≡◌, ◌-◌, ◌<◌, ◌≤◌, ℤ, pos, ◌+ℤ◌, ◌-ℤ◌, ◌*ℤ◌, ◌<ℤ◌, ◌↔◌, ℕ, suc, List, length, IsTrue, OnOk, IfErr};
+ghost use Rattle.tile_model.specs.Tessellations.{TileKind};
+ghost use Rattle.tree_model.specs.Automata.{offset, corner_valence};
+ghost use Rattle.tree_model.specs.Conditions.{HasOneChange, HasSmallChange, HasGreaterOuter};
+ghost use Rattle.structure_check.specs.Broken.{IsFirstBroken};
+ghost use Rattle.structure_check.specs.Search.{HoldBelow, HasCorners, CornerHolds, corner_number};
+
+use rules_data::Automaton;
+
+use crate::broken::Broken;
+
+/// A condition that is read at each corner type.
+#[derive(Clone, Copy, Debug, PartialEq, Eq)]
+pub enum CornerCondition {
+    OneChange,
+    SmallChange,
+    GreaterOuter,
+}
+
+/// The number of the condition.
+fn number(condition: CornerCondition) -> u8
+    ensures { result ≡ corner_number condition }
+{
+    match condition {
+        CornerCondition::OneChange => 10,
+        CornerCondition::SmallChange => 11,
+        CornerCondition::GreaterOuter => 12,
+    }
+}
+
+/// The depth of the tile at the last place less that of the tile at place 0.
+fn last_offset(a: &Automaton, g: u32) -> i8
+    requires corners { HasCorners a.now }
+    requires corner { g < length a.now.corners }
+    ensures { result ≡ offset a.now g (corner_valence a.now g - 1) }
+{
+    a.offset(g, (a.valence(g) - 1) as u8)
+}
+
+/// Whether two differences are equal.
+fn differ_alike(x: i8, y: i8, z: i8, w: i8) -> bool
+    ensures { IsTrue result ↔ (x -ℤ y ≡ z -ℤ w) }
+{
+    x as i16 - y as i16 == z as i16 - w as i16
+}
+
+/// Whether a rank plus the scale times an offset is below another rank, computed without loss.
+fn is_outweighed(rank: u32, scale: u32, offset: i8, other: u32) -> bool
+    requires { scale ≤ 65536 }
+    ensures { IsTrue result ↔ ((pos rank +ℤ (pos scale *ℤ offset)) <ℤ pos other) }
+{
+    let weight = rank as i64 + scale as i64 * offset as i64;
+    weight < other as i64
+}
+
+/// Whether the depth changes across the key edge by as much seen from the outer corner as seen from the corner itself.
+fn has_one_change(a: &Automaton, g: u32) -> bool
+    requires corners { HasCorners a.now }
+    requires corner { g < length a.now.corners }
+    ensures { IsTrue result ↔ HasOneChange a.now g }
+{
+    let outer = a.outer(g);
+    let entered = a.offset(outer.corner, outer.place);
+    let behind = a.offset(outer.corner, outer.place + 1);
+    differ_alike(behind, entered, last_offset(a, g), a.offset(g, 0))
+}
+
+/// Whether that change is -1, 0 or 1.
+fn has_small_change(a: &Automaton, g: u32) -> bool
+    requires corners { HasCorners a.now }
+    requires corner { g < length a.now.corners }
+    ensures { IsTrue result ↔ HasSmallChange a.now g }
+{
+    let change = last_offset(a, g);
+    -1 <= change && change <= 1
+}
+
+/// Whether the rank of the outer corner is greater by more than the scale times the offset at which it is entered.
+fn has_greater_outer(a: &Automaton, g: u32) -> bool
+    requires corners { HasCorners a.now }
+    requires corner { g < length a.now.corners }
+    ensures { IsTrue result ↔ HasGreaterOuter a.now g }
+{
+    let outer = a.outer(g);
+    let entered = a.offset(outer.corner, outer.place);
+    is_outweighed(a.rank(g), a.scale, entered, a.rank(outer.corner))
+}
+
+/// Whether the condition holds of a corner type.
+fn holds(condition: CornerCondition, a: &Automaton, g: u32) -> bool
+    requires corners { HasCorners a.now }
+    requires corner { g < length a.now.corners }
+    ensures { IsTrue result ↔ CornerHolds condition a.now g }
+{
+    match condition {
+        CornerCondition::OneChange => has_one_change(a, g),
+        CornerCondition::SmallChange => has_small_change(a, g),
+        CornerCondition::GreaterOuter => has_greater_outer(a, g),
+    }
+}
+
+/// Looks for the least corner type of which the condition fails.
+pub fn check_corners(condition: CornerCondition, a: &Automaton) -> Result<(), Broken>
+    requires { HasCorners a.now }
+    ensures ok { OnOk result ((kinds : List TileKind) → HoldBelow kinds a.now (corner_number condition) → HoldBelow kinds a.now (suc (corner_number condition))) }
+    ensures err { IfErr result (λ b. (kinds : List TileKind) → HoldBelow kinds a.now (corner_number condition) → IsFirstBroken kinds a.now b.condition b.first b.second) }
+{
+    for g in 0..a.corners.len() as u32 {
+        if !holds(condition, a, g) {
+            return Err(Broken {
+                condition: number(condition),
+                first: g,
+                second: 0,
+            });
+        }
+    }
+    Ok(())
+}

@@ -1,0 +1,14 @@
+//! The checker: whether an automaton meets the twelve conditions over a tessellation, and where it first breaks one.
+#![tactic(auto)]
+
+mod broken;
+mod conditions;
+mod corners;
+mod reading;
+mod roots;
+mod rules;
+mod sides;
+mod table;
+
+pub use broken::Broken;
+pub use rules::{Rules, check};

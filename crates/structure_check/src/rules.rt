@@ -1,0 +1,78 @@
+// Rules: an automaton that has passed all conditions, together with its tessellation.
+ghost use Rattle.std.specs.Prelude.{◌≡◌, IsOk, IfOk, IfErr, ◌↔◌};
+ghost use Rattle.tree_model.specs.Conditions.{IsAccepted};
+ghost use Rattle.structure_check.specs.Broken.{IsFirstBroken};
+ghost use Rattle.structure_check.specs.Rules.{TreeRules, AreSound};
+
+use std::marker::Model;
+
+use rules_data::Automaton;
+use tile_kinds::Tessellation;
+
+use crate::broken::Broken;
+use crate::conditions::check_all;
+
+/// A tessellation and an automaton over it of which all twelve conditions hold.
+#[derive(Debug, Drop)]
+pub struct Rules {
+    tessellation: Tessellation,
+    automaton: Automaton,
+}
+
+impl Model for Rules {
+    ghost use Rattle.structure_check.specs.Rules.{TreeRules, AreSound};
+
+    ghost Value = { TreeRules };
+
+    ghost view = { λ r. record { kinds = r.tessellation; automaton = r.automaton } };
+
+    ghost invariant = { λ r. AreSound (record { kinds = r.tessellation; automaton = r.automaton }) };
+}
+
+impl Rules {
+    /// The tessellation.
+    pub fn tessellation(&self) -> &Tessellation
+        ensures value { result.now ≡ self.now.kinds }
+        ensures sound { AreSound self.now }
+    {
+        &self.tessellation
+    }
+
+    /// The automaton.
+    pub fn automaton(&self) -> &Automaton
+        ensures value { result.now ≡ self.now.automaton }
+        ensures sound { AreSound self.now }
+    {
+        &self.automaton
+    }
+
+    /// Both parts.
+    pub fn into_parts(self) -> (Tessellation, Automaton)
+        ensures tessellation { result.0 ≡ self.kinds }
+        ensures automaton { result.1 ≡ self.automaton }
+        ensures sound { AreSound self }
+    {
+        (self.tessellation, self.automaton)
+    }
+}
+
+/// Checks the twelve conditions of an automaton over a tessellation, of all its states, corner types and roots, whether the tree reaches
+/// them or not. Where all hold, both parts are in the rules; else both are handed back as they were, with the least broken condition and
+/// its least place. Takes no memory.
+pub fn check(tess: Tessellation, a: Automaton) -> Result<Rules, (Tessellation, Automaton, Broken)>
+    ensures exactly { IsOk result ↔ IsAccepted tess a }
+    ensures tessellation_kept { IfOk result (λ r. r.kinds ≡ tess) }
+    ensures automaton_kept { IfOk result (λ r. r.automaton ≡ a) }
+    ensures sound { IfOk result (λ r. AreSound r) }
+    ensures tessellation_back { IfErr result (λ e. e.0 ≡ tess) }
+    ensures automaton_back { IfErr result (λ e. e.1 ≡ a) }
+    ensures first_broken { IfErr result (λ e. IsFirstBroken tess a e.2.condition e.2.first e.2.second) }
+{
+    match check_all(&tess, &a) {
+        Ok(()) => Ok(Rules {
+            tessellation: tess,
+            automaton: a,
+        }),
+        Err(broken) => Err((tess, a, broken)),
+    }
+}
