@@ -17,3 +17,4 @@ pub mod Places
 pub mod Levels
 pub mod Falls
 pub mod Together
+pub mod Spots

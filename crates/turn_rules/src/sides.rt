@@ -27,17 +27,14 @@ pub fn rule(r: &Rules, state: u32, side: u8) -> Rule
 }
 
 /// The side to the left of a side of a tile in a state of the rules.
+#[tactic(auto, unfolding(tree_model::specs::Automata::next))]
 pub fn next_left(r: &Rules, state: u32, side: u8) -> u8
     requires state { state < length r.now.automaton.states }
     requires side { side < count r.now.kinds r.now.automaton state }
     ensures { result ≡ next (count r.now.kinds r.now.automaton state) side }
 {
-    let following = side + 1;
-    if following == side_count(r, state) {
-        0
-    } else {
-        following
-    }
+    let sides = side_count(r, state);
+    if side + 1 == sides { 0 } else { side + 1 }
 }
 
 /// The side to the right of a side of a tile in a state of the rules.

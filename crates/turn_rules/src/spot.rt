@@ -53,6 +53,7 @@ impl Spot {
         ensures child { OnOk result (IsAt r.now (root_kind r.now self.old) (record { name = self.old.name ++ self.old.spin ∷ []; side = 0 }) self.new) }
         ensures unchanged { OnErr result (self.new ≡ self.old) }
     {
+        let _ = r.automaton();
         let Rule::Child(child) = rule(r, self.state(), self.spin) else {
             unreachable!()
         };
@@ -160,6 +161,7 @@ impl Spot {
     }
 
     /// The kind of the tile.
+    #[tactic(auto, using(crate::proofs::Spots::tile_known))]
     pub fn kind(&self, r: &Rules) -> u8
         requires { IsSpot r.now self.now }
         ensures value { result ≡ (state_at r.now.automaton (tile_state r.now self.now)).kind }
