@@ -35,7 +35,7 @@ impl From<AllocError> for NameFault {
     }
 }
 
-/// The text of a name.
+/// The text of a name of any length: `-` for the root, else its sides joined by `.`.
 pub fn print_name(alloc: Global, name: &Name) -> Result<Vec<u8>, AllocError>
     ensures { IfOk result (λ text. text.items ≡ name_text name.now) }
 {
@@ -51,7 +51,9 @@ pub fn print_name(alloc: Global, name: &Name) -> Result<Vec<u8>, AllocError>
     Ok(text)
 }
 
-/// Reads the text of a name of at most 4,000 sides.
+/// Reads the text of a name of at most 4,000 sides, each from 0 to 63 in digits without leading zeros.
+///
+/// The text of a longer name is `Deep`. What is the text of no name is `Text`, however long it is.
 pub fn read_name(alloc: Global, bytes: &[u8]) -> Result<Name, NameFault>
     // What is read has this text, and what has this text is read.
     ensures spelt { IfOk result (λ name. IsSpelling bytes.now name) }

@@ -6,7 +6,9 @@ use Rattle.tile_model.specs.Tessellations.{TileKind}
 use Rattle.tree_model.specs.Automata.{TreeAutomaton, side_count}
 use Rattle.tree_model.specs.Conditions.{IsClosedTable, IsAccepted, AtEverySide, HasLimits, HasTables, HasFirstPlace, HasLastPlace}
 use Rattle.structure_check.specs.Broken.{IsPlace, IsBefore, IsFirstBroken, Holds, PartHolds, part_size}
-use Rattle.structure_check.specs.Search.{HoldBelow, PartsBelow, StatesBelow, SideHolds, IsSideReady, side_number, CornerHolds, HasCorners, corner_number}
+use Rattle.structure_check.specs.Search.{HoldBelow, PartsBelow, StatesBelow, SideHolds, IsSideReady, side_number, IsPartReady, part_number, CornerHolds, HasCorners, corner_number}
+use Rattle.structure_check.specs.declared.table.TablePart.{TablePart}
+use Rattle.structure_check.specs.declared.table.TablePart.TheVariants.{Limits, Roots, Offsets, Outers, Sizes, Targets}
 use Rattle.structure_check.specs.declared.sides.SideCondition.{SideCondition}
 use Rattle.structure_check.specs.declared.sides.SideCondition.TheVariants.{Parents, ChildTypes, Valences, FirstPlaces, LastPlaces, OutersBefore, OutersBehind, ChildClaims}
 use Rattle.structure_check.specs.declared.corners.CornerCondition.{CornerCondition}
@@ -85,16 +87,16 @@ module _ (kinds : List TileKind) (a : TreeAutomaton) where
   pub side_fails : (c : SideCondition) (s i : ℕ) → HoldBelow kinds a (side_number c) → s < length a.states → i < side_count kinds a s → ¬ (SideHolds c kinds a s i)
       → StatesBelow c kinds a s → ((j : ℕ) → j < i → SideHolds c kinds a s j) → IsFirstBroken kinds a (side_number c) s i
   side_fails c s i below state side fails states sides = record {
-      place = side_place (side_number c) s i (side_low c) (side_high c) state side;
-      fails = λ h. fails (side_holds c s i h);
-      places_before = λ f j place before.
+    place = side_place (side_number c) s i (side_low c) (side_high c) state side;
+    fails = λ h. fails (side_holds c s i h);
+    places_before = λ f j place before.
         let at : (f < length a.states) × (j < side_count kinds a f) = place.side (side_low c) (side_high c) in
         holds_side c f j (elim (before.other (side_low c)) [
           | inl less ↦ states f j less at.1
           | inr same ↦ subst (λ (x : ℕ). SideHolds c kinds a x j) (sym same.0) (sides j same.1)
         ]);
-      conditions_before = below
-    }
+    conditions_before = below;
+  }
 
   -- conditions on corner types
   corner_low : (c : CornerCondition) → 10 ≤ corner_number c
@@ -127,17 +129,17 @@ module _ (kinds : List TileKind) (a : TreeAutomaton) where
   pub corner_fails : (c : CornerCondition) (g : ℕ) → g < length a.corners → ¬ (CornerHolds c a g) → ((f : ℕ) → f < g → CornerHolds c a f)
       → HoldBelow kinds a (corner_number c) → IsFirstBroken kinds a (corner_number c) g 0
   corner_fails c g corner fails corners below = record {
-      place = corner_place (corner_number c) g (corner_low c) (corner_high c) corner;
-      fails = λ h. fails (corner_holds c g h);
-      places_before = λ f s place before.
+    place = corner_place (corner_number c) g (corner_low c) (corner_high c) corner;
+    fails = λ h. fails (corner_holds c g h);
+    places_before = λ f s place before.
         let at : (f < length a.corners) × (s ≡ 0) = place.corner (corner_low c) in
         let low : 10 ≤ corner_number c = corner_low c in
         elim (before.other (omega arith)) [
           | inl less ↦ subst (λ (x : ℕ). Holds kinds a (corner_number c) f x) (sym at.1) (holds_corner c f (corners f less))
           | inr same ↦ absurd (omega (arith, same.1))
         ];
-      conditions_before = below
-    }
+    conditions_before = below;
+  }
 
   -- parts of C1
   pub parts_hold : PartsBelow kinds a 6 → HoldBelow kinds a 2
@@ -154,16 +156,16 @@ module _ (kinds : List TileKind) (a : TreeAutomaton) where
       → ((j : ℕ) → j < index → PartHolds kinds a p j) → IsFirstBroken kinds a 1 index p
   unfolding Holds
   part_fails p index few parts below fails indices = record {
-      place = part_place index p few below;
-      fails = fails;
-      places_before = λ f s place before.
+    place = part_place index p few below;
+    fails = fails;
+    places_before = λ f s place before.
         let at : (s ≤ 5) × (f < part_size kinds a s) = place.part refl in
         elim (before.part refl) [
           | inl less ↦ parts s f less at.1
           | inr same ↦ subst (λ (x : ℕ). PartHolds kinds a x f) (sym same.0) (indices f same.1)
         ];
-      conditions_before = nothing_below
-    }
+    conditions_before = nothing_below;
+  }
 
   pub one_more_part : (p : ℕ) → PartsBelow kinds a p → ((index : ℕ) → index < part_size kinds a p → PartHolds kinds a p index) → PartsBelow kinds a (suc p)
   one_more_part p below at part index less within =
@@ -178,14 +180,14 @@ module _ (kinds : List TileKind) (a : TreeAutomaton) where
   unfolding Holds PartHolds
   closed c enough below =
       let part : (p index : ℕ) → p ≤ 5 → index < part_size kinds a p → PartHolds kinds a p index
-        = λ (p index : ℕ) (few : p ≤ 5) (within : index < part_size kinds a p). below 1 index p enough (part_place index p few within) in
+      = λ (p index : ℕ) (few : p ≤ 5) (within : index < part_size kinds a p). below 1 index p enough (part_place index p few within) in
       record {
         limits = part 0 0 (omega arith) (omega arith);
         root = λ k less. part 1 k (omega arith) less;
         offsets = λ g less. part 2 g (omega arith) less;
         outer = λ g less. part 3 g (omega arith) less;
         tables = λ s less. part 4 s (omega arith) less;
-        targets = λ s less. part 5 s (omega arith) less
+        targets = λ s less. part 5 s (omega arith) less;
       }
 
   at_sides : (c : SideCondition) (n : ℕ) → side_number c < n → HoldBelow kinds a n → AtEverySide kinds a (SideHolds c kinds a)
@@ -193,6 +195,23 @@ module _ (kinds : List TileKind) (a : TreeAutomaton) where
 
   at_corners : (c : CornerCondition) (n : ℕ) → corner_number c < n → HoldBelow kinds a n → (g : ℕ) → g < length a.corners → CornerHolds c a g
   at_corners c n less below = λ g corner. corner_holds c g (below (corner_number c) g 0 less (corner_place (corner_number c) g (corner_low c) (corner_high c) corner))
+
+  pub part_ready : (part : TablePart) → PartsBelow kinds a (part_number part) → IsPartReady part kinds a
+  unfolding PartHolds
+  part_ready Limits below = tt
+  part_ready Roots below = below 0 0 (omega arith) (omega arith)
+  part_ready Offsets below = below 0 0 (omega arith) (omega arith)
+  part_ready Outers below = below 0 0 (omega arith) (omega arith)
+  part_ready Sizes below = below 0 0 (omega arith) (omega arith)
+  part_ready Targets below = (below 0 0 (omega arith) (omega arith), λ s state. below 4 s (omega arith) state)
+
+  pub part_high : (part : TablePart) → part_number part ≤ 5
+  part_high Limits = omega arith
+  part_high Roots = omega arith
+  part_high Offsets = omega arith
+  part_high Outers = omega arith
+  part_high Sizes = omega arith
+  part_high Targets = omega arith
 
   pub side_ready : (c : SideCondition) → HoldBelow kinds a (side_number c) → IsSideReady c kinds a
   side_ready Parents below = tt
@@ -214,16 +233,16 @@ module _ (kinds : List TileKind) (a : TreeAutomaton) where
 
   pub accepted : HoldBelow kinds a 13 → IsAccepted kinds a
   accepted below = record {
-      c1 = closed 13 (omega arith) below;
-      c2 = at_sides Parents 13 (omega arith) below;
-      c3 = at_sides ChildTypes 13 (omega arith) below;
-      c4 = at_sides Valences 13 (omega arith) below;
-      c5 = at_sides FirstPlaces 13 (omega arith) below;
-      c6 = at_sides LastPlaces 13 (omega arith) below;
-      c7 = at_sides OutersBefore 13 (omega arith) below;
-      c8 = at_sides OutersBehind 13 (omega arith) below;
-      c9 = at_sides ChildClaims 13 (omega arith) below;
-      c10 = at_corners OneChange 13 (omega arith) below;
-      c11 = at_corners SmallChange 13 (omega arith) below;
-      c12 = at_corners GreaterOuter 13 (omega arith) below
-    }
+    c1 = closed 13 (omega arith) below;
+    c2 = at_sides Parents 13 (omega arith) below;
+    c3 = at_sides ChildTypes 13 (omega arith) below;
+    c4 = at_sides Valences 13 (omega arith) below;
+    c5 = at_sides FirstPlaces 13 (omega arith) below;
+    c6 = at_sides LastPlaces 13 (omega arith) below;
+    c7 = at_sides OutersBefore 13 (omega arith) below;
+    c8 = at_sides OutersBehind 13 (omega arith) below;
+    c9 = at_sides ChildClaims 13 (omega arith) below;
+    c10 = at_corners OneChange 13 (omega arith) below;
+    c11 = at_corners SmallChange 13 (omega arith) below;
+    c12 = at_corners GreaterOuter 13 (omega arith) below;
+  }

@@ -2,6 +2,7 @@
 use Rattle.std.specs.Prelude.{◌≡◌, ℕ, suc, ◌<◌, ◌≤◌, List, length, slice_index_or, ℤ, pos, nat_abs}
 use Rattle.tile_model.specs.Tessellations.{TileKind}
 use Rattle.tree_model.specs.declared.Rule.TheVariants.{Child}
+use Rattle.tree_model.specs.declared.Claim.{Claim}
 use Rattle.tree_model.specs.Automata.{TreeAutomaton, side_count, rule_at, claim_at, corner_valence}
 use Rattle.tree_model.specs.Conditions.{AtEverySide, AtEveryCorner, HasLimits, HasOffsets, HasOuter, HasTables, HasParentRule, HasChildType, HasClaimValence, HasFirstPlace, HasLastPlace, HasOuterBefore, HasOuterBehind, KeepsClaims, HasOneChange, HasSmallChange, HasGreaterOuter}
 use Rattle.structure_check.specs.Broken.{IsPlace, Holds, PartHolds, part_size}
@@ -37,6 +38,12 @@ pub record HasTargetsAt (a : TreeAutomaton) (s i : ℕ) : Type 0 where
   pub child : (c : ℕ) → rule_at a s i ≡ Child c → c < length a.states
   pub corner : (claim_at a s i).corner < length a.corners
   pub place : (claim_at a s i).place < corner_valence a (claim_at a s i).corner
+
+-- a claim names a corner type and a place of it, one of 64 at most
+pub record IsClaim (a : TreeAutomaton) (claim : Claim) : Type 0 where
+  pub corner : claim.corner < length a.corners
+  pub place : claim.place < corner_valence a claim.corner
+  pub few : corner_valence a claim.corner ≤ 64
 
 -- what the check of a part stands on
 abbrev pub IsPartReady : TablePart → List TileKind → TreeAutomaton → Type 0

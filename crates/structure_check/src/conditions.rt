@@ -4,13 +4,12 @@ ghost use Rattle.tree_model.specs.Conditions.{IsAccepted};
 ghost use Rattle.structure_check.specs.Broken.{IsFirstBroken};
 ghost use Rattle.structure_check.specs.Search.{HoldBelow};
 
-use rules_data::Automaton;
-use tile_kinds::Tessellation;
-
 use crate::broken::Broken;
 use crate::corners::{CornerCondition, check_corners};
 use crate::sides::{SideCondition, check_sides};
 use crate::table::{TablePart, check_part};
+use rules_data::Automaton;
+use tile_kinds::Tessellation;
 
 /// Looks for the first index at which a part of condition 1 fails.
 fn check_table(tess: &Tessellation, a: &Automaton) -> Result<(), Broken>
@@ -22,7 +21,8 @@ fn check_table(tess: &Tessellation, a: &Automaton) -> Result<(), Broken>
     check_part(TablePart::Offsets, tess, a)?;
     check_part(TablePart::Outers, tess, a)?;
     check_part(TablePart::Sizes, tess, a)?;
-    check_part(TablePart::Targets, tess, a)
+    check_part(TablePart::Targets, tess, a)?;
+    Ok(())
 }
 
 /// Looks for the first broken condition, and for its first place.
@@ -41,5 +41,6 @@ pub fn check_all(tess: &Tessellation, a: &Automaton) -> Result<(), Broken>
     check_sides(SideCondition::ChildClaims, tess, a)?;
     check_corners(CornerCondition::OneChange, a)?;
     check_corners(CornerCondition::SmallChange, a)?;
-    check_corners(CornerCondition::GreaterOuter, a)
+    check_corners(CornerCondition::GreaterOuter, a)?;
+    Ok(())
 }

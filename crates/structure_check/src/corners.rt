@@ -6,9 +6,8 @@ ghost use Rattle.tree_model.specs.Conditions.{HasOneChange, HasSmallChange, HasG
 ghost use Rattle.structure_check.specs.Broken.{IsFirstBroken};
 ghost use Rattle.structure_check.specs.Search.{HoldBelow, HasCorners, CornerHolds, corner_number};
 
-use rules_data::Automaton;
-
 use crate::broken::Broken;
+use rules_data::Automaton;
 
 /// A condition that is read at each corner type.
 #[derive(Clone, Copy, Debug, PartialEq, Eq)]
@@ -38,20 +37,22 @@ fn last_offset(a: &Automaton, g: u32) -> i8
     a.offset(g, (a.valence(g) - 1) as u8)
 }
 
-/// Whether two differences are equal.
-fn differ_alike(x: i8, y: i8, z: i8, w: i8) -> bool
-    ensures { IsTrue result ↔ (x -ℤ y ≡ z -ℤ w) }
+/// The depth of the tile at place `t` less that of the tile at place `u`, without loss.
+fn difference(a: &Automaton, g: u32, t: u8, u: u8) -> i16
+    requires corner { g < length a.now.corners }
+    requires minuend { t < corner_valence a.now g }
+    requires subtrahend { u < corner_valence a.now g }
+    ensures { result ≡ offset a.now g t -ℤ offset a.now g u }
 {
-    x as i16 - y as i16 == z as i16 - w as i16
+    a.offset(g, t) as i16 - a.offset(g, u) as i16
 }
 
-/// Whether a rank plus the scale times an offset is below another rank, computed without loss.
-fn is_outweighed(rank: u32, scale: u32, offset: i8, other: u32) -> bool
+/// A rank plus the scale times an offset, without loss.
+fn raised(rank: u32, scale: u32, offset: i8) -> i64
     requires { scale ≤ 65536 }
-    ensures { IsTrue result ↔ ((pos rank +ℤ (pos scale *ℤ offset)) <ℤ pos other) }
+    ensures { result ≡ pos rank +ℤ (pos scale *ℤ offset) }
 {
-    let weight = rank as i64 + scale as i64 * offset as i64;
-    weight < other as i64
+    rank as i64 + scale as i64 * offset as i64
 }
 
 /// Whether the depth changes across the key edge by as much seen from the outer corner as seen from the corner itself.
@@ -61,9 +62,8 @@ fn has_one_change(a: &Automaton, g: u32) -> bool
     ensures { IsTrue result ↔ HasOneChange a.now g }
 {
     let outer = a.outer(g);
-    let entered = a.offset(outer.corner, outer.place);
-    let behind = a.offset(outer.corner, outer.place + 1);
-    differ_alike(behind, entered, last_offset(a, g), a.offset(g, 0))
+    let last = (a.valence(g) - 1) as u8;
+    difference(a, outer.corner, outer.place + 1, outer.place) == difference(a, g, last, 0)
 }
 
 /// Whether that change is -1, 0 or 1.
@@ -84,7 +84,7 @@ fn has_greater_outer(a: &Automaton, g: u32) -> bool
 {
     let outer = a.outer(g);
     let entered = a.offset(outer.corner, outer.place);
-    is_outweighed(a.rank(g), a.scale, entered, a.rank(outer.corner))
+    raised(a.rank(g), a.scale, entered) < a.rank(outer.corner) as i64
 }
 
 /// Whether the condition holds of a corner type.

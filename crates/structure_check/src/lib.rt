@@ -12,3 +12,6 @@ mod table;
 
 pub use broken::Broken;
 pub use rules::{Rules, check};
+
+#[cfg(test)]
+mod tests;

@@ -2,7 +2,8 @@
 ghost use Rattle.std.specs.Prelude.{◌≡◌, ◌<◌, ◌≤◌, ◌↔◌, suc, length, IsTrue, pos, ◌+ℤ◌};
 ghost use Rattle.tile_model.specs.Tessellations.{IsType};
 ghost use Rattle.tree_model.specs.Automata.{claim_at, side_count, type_at, offset, corner_valence, next, previous};
-ghost use Rattle.tree_model.specs.Conditions.{HasTables};
+ghost use Rattle.tree_model.specs.Conditions.{HasTables, IsClosedTable};
+ghost use Rattle.structure_check.specs.Search.{IsClaim};
 
 use rules_data::{Automaton, Claim};
 use tile_kinds::{DartType, Tessellation};
@@ -45,17 +46,23 @@ pub fn side_behind(tess: &Tessellation, a: &Automaton, s: u32, i: u8) -> u8
     ensures value { result ≡ next (side_count tess.now a.now s) i }
     ensures side { result < side_count tess.now a.now s }
 {
-    if i + 1 == sides_of(tess, a, s) { 0 } else { i + 1 }
+    let sides = sides_of(tess, a, s);
+    if i + 1 == sides { 0 } else { i + 1 }
 }
 
 /// The claim of the corner before side `i`, at its right end.
 pub fn claim_before(tess: &Tessellation, a: &Automaton, s: u32, i: u8) -> Claim
+    requires closed { IsClosedTable tess.now a.now }
     requires state { s < length a.now.states }
-    requires tables { HasTables tess.now a.now s }
     requires side { i < side_count tess.now a.now s }
-    ensures { result ≡ claim_at a.now s (previous (side_count tess.now a.now s) i) }
+    ensures value { result ≡ claim_at a.now s (previous (side_count tess.now a.now s) i) }
+    ensures known { IsClaim a.now result }
 {
-    let before = if i == 0 { sides_of(tess, a, s) - 1 } else { i - 1 };
+    let before = if i == 0 {
+        sides_of(tess, a, s) - 1
+    } else {
+        i - 1
+    };
     a.claim(s, before)
 }
 

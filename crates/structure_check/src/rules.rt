@@ -1,16 +1,14 @@
 // Rules: an automaton that has passed all conditions, together with its tessellation.
-ghost use Rattle.std.specs.Prelude.{◌≡◌, IsOk, IfOk, IfErr, ◌↔◌};
+ghost use Rattle.std.specs.Prelude.{◌≡◌, ℕ, IsOk, IfOk, IfErr, ◌↔◌};
 ghost use Rattle.tree_model.specs.Conditions.{IsAccepted};
 ghost use Rattle.structure_check.specs.Broken.{IsFirstBroken};
 ghost use Rattle.structure_check.specs.Rules.{TreeRules, AreSound};
 
-use std::marker::Model;
-
-use rules_data::Automaton;
-use tile_kinds::Tessellation;
-
 use crate::broken::Broken;
 use crate::conditions::check_all;
+use rules_data::Automaton;
+use std::marker::Model;
+use tile_kinds::Tessellation;
 
 /// A tessellation and an automaton over it of which all twelve conditions hold.
 #[derive(Debug, Drop)]
@@ -67,6 +65,7 @@ pub fn check(tess: Tessellation, a: Automaton) -> Result<Rules, (Tessellation, A
     ensures tessellation_back { IfErr result (λ e. e.0 ≡ tess) }
     ensures automaton_back { IfErr result (λ e. e.1 ≡ a) }
     ensures first_broken { IfErr result (λ e. IsFirstBroken tess a e.2.condition e.2.first e.2.second) }
+    ensures no_other { IfErr result (λ e. (c f s : ℕ) → IsFirstBroken tess a c f s → (c ≡ e.2.condition) × (f ≡ e.2.first) × (s ≡ e.2.second)) }
 {
     match check_all(&tess, &a) {
         Ok(()) => Ok(Rules {

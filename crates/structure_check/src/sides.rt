@@ -1,17 +1,16 @@
 // The conditions on the sides and claims of states, which make the tables describe one tree in the tessellation.
 ghost use Rattle.std.specs.Prelude.{◌≡◌, ◌<◌, ◌↔◌, ℕ, suc, length, IsTrue, IfNone, IfSome, OnOk, IfErr};
 ghost use Rattle.tree_model.specs.declared.Claim.{Claim};
-ghost use Rattle.tree_model.specs.Automata.{side_count, further};
-ghost use Rattle.tree_model.specs.Conditions.{IsClosedTable, AtEverySide, HasParentRule, HasChildType, HasClaimValence, HasFirstPlace, HasLastPlace, HasOuterBefore, HasOuterBehind, KeepsClaims};
+ghost use Rattle.tree_model.specs.Automata.{side_count, claim_at, corner_valence, previous, further};
+ghost use Rattle.tree_model.specs.Conditions.{IsClosedTable, AtEverySide, HasParentRule, HasChildType, HasClaimValence, HasFirstPlace, HasLastPlace, HasOuterBefore, HasOuterBehind, HasChildClaims, KeepsClaims};
 ghost use Rattle.structure_check.specs.Broken.{IsFirstBroken};
 ghost use Rattle.structure_check.specs.Search.{HoldBelow, IsSideReady, SideHolds, SidesBelow, side_number};
-
-use rules_data::{Automaton, Claim, Rule};
-use tile_kinds::Tessellation;
 
 use crate::broken::Broken;
 use crate::reading::{claim_before, is_deeper, side_behind, sides_of, type_of};
 use crate::roots::{is_root, is_root_of_its_kind};
+use rules_data::{Automaton, Claim, Rule};
+use tile_kinds::Tessellation;
 
 /// A condition that is read at each side or claim of each state.
 #[derive(Clone, Copy, Debug, PartialEq, Eq)]
@@ -44,10 +43,9 @@ fn number(condition: SideCondition) -> u8
 
 /// Whether a claim is another one with 1 added to its place.
 fn is_further(claim: Claim, before: Claim) -> bool
-    requires { before.place < 64 }
     ensures { IsTrue result ↔ (claim ≡ further before) }
 {
-    claim.corner == before.corner && claim.place == before.place + 1
+    claim.corner == before.corner && claim.place as u16 == before.place as u16 + 1
 }
 
 /// Whether side 0 is Parent in a state that is no root and no other side is, no child is a root, and roots fit their kinds.
@@ -131,10 +129,32 @@ fn has_outer_behind(tess: &Tessellation, a: &Automaton, s: u32, i: u8) -> bool
     requires side { i < side_count tess.now a.now s }
     ensures { IsTrue result ↔ HasOuterBehind tess.now a.now s i }
 {
-    a.rule(s, i) != Rule::Right || is_further(a.claim(s, i), a.outer(claim_before(tess, a, s, i).corner))
+    a.rule(s, i) != Rule::Right
+        || is_further(a.claim(s, i), a.outer(claim_before(tess, a, s, i).corner))
 }
 
-/// Whether the child across a Child side has the claims at both ends of the side, seen from its own place one level deeper.
+/// Whether child `c` across side `i` has the claims at both ends of the side, each seen from its own place, which lies one level deeper.
+fn has_child_claims(tess: &Tessellation, a: &Automaton, s: u32, i: u8, c: u32) -> bool
+    requires closed { IsClosedTable tess.now a.now }
+    requires state { s < length a.now.states }
+    requires side { i < side_count tess.now a.now s }
+    requires child { c < length a.now.states }
+    requires right_inner { suc (claim_at a.now s (previous (side_count tess.now a.now s) i)).place < corner_valence a.now (claim_at a.now s (previous (side_count tess.now a.now s) i)).corner }
+    requires left_inner { 0 < (claim_at a.now s i).place }
+    ensures { IsTrue result ↔ HasChildClaims tess.now a.now s i c }
+{
+    let sides = sides_of(tess, a, c);
+    let first = a.claim(c, 0);
+    let last = a.claim(c, sides - 1);
+    let right = claim_before(tess, a, s, i);
+    let left = a.claim(s, i);
+    is_further(first, right)
+        && is_deeper(a, right.corner, right.place + 1, right.place)
+        && is_further(left, last)
+        && is_deeper(a, left.corner, left.place - 1, left.place)
+}
+
+/// Whether the child across a Child side, if it is one, has the claims at both ends of the side.
 fn keeps_claims(tess: &Tessellation, a: &Automaton, s: u32, i: u8) -> bool
     requires closed { IsClosedTable tess.now a.now }
     requires first_places { AtEverySide tess.now a.now (HasFirstPlace a.now) }
@@ -143,15 +163,10 @@ fn keeps_claims(tess: &Tessellation, a: &Automaton, s: u32, i: u8) -> bool
     requires side { i < side_count tess.now a.now s }
     ensures { IsTrue result ↔ KeepsClaims tess.now a.now s i }
 {
-    let Rule::Child(c) = a.rule(s, i) else {
-        return true;
-    };
-    let right = claim_before(tess, a, s, i);
-    let left = a.claim(s, i);
-    is_further(a.claim(c, 0), right)
-        && is_deeper(a, right.corner, right.place + 1, right.place)
-        && is_further(left, a.claim(c, sides_of(tess, a, c) - 1))
-        && is_deeper(a, left.corner, left.place - 1, left.place)
+    match a.rule(s, i) {
+        Rule::Child(c) => has_child_claims(tess, a, s, i, c),
+        _ => true,
+    }
 }
 
 /// Whether the condition holds at side or claim `i` of state `s`.
@@ -193,7 +208,11 @@ fn failing_side(condition: SideCondition, tess: &Tessellation, a: &Automaton, s:
 }
 
 /// Looks for the least state, and in it for the least side or claim, at which the condition fails.
-pub fn check_sides(condition: SideCondition, tess: &Tessellation, a: &Automaton) -> Result<(), Broken>
+pub fn check_sides(
+    condition: SideCondition,
+    tess: &Tessellation,
+    a: &Automaton,
+) -> Result<(), Broken>
     requires { HoldBelow tess.now a.now (side_number condition) }
     ensures ok { OnOk result (HoldBelow tess.now a.now (suc (side_number condition))) }
     ensures err { IfErr result (λ b. IsFirstBroken tess.now a.now b.condition b.first b.second) }

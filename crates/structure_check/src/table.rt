@@ -5,11 +5,10 @@ ghost use Rattle.structure_check.specs.Broken.{IsFirstBroken, PartHolds, part_si
 ghost use Rattle.tree_model.specs.Automata.{state_at};
 ghost use Rattle.structure_check.specs.Search.{PartsBelow, IsPartReady, part_number, AreSmall, HasTargetsAt};
 
-use rules_data::{Automaton, Rule};
-use tile_kinds::Tessellation;
-
 use crate::broken::Broken;
 use crate::reading::sides_of;
+use rules_data::{Automaton, Rule};
+use tile_kinds::Tessellation;
 
 /// A part of the first condition.
 #[derive(Clone, Copy, Debug, PartialEq, Eq)]
@@ -63,11 +62,12 @@ fn has_limits(tess: &Tessellation, a: &Automaton) -> bool
 }
 
 /// Whether the root of kind `k` is a state.
-fn has_root_state(a: &Automaton, k: u8) -> bool
+#[tactic(auto, using(std::proofs::lemmas::List::get_or_default), unfolding(tree_model::specs::Automata::root_at))]
+fn has_root_state(a: &Automaton, k: u32) -> bool
     requires { k < length a.now.roots }
     ensures { IsTrue result ↔ HasRootState a.now k }
 {
-    (a.root(k) as usize) < a.states.len()
+    (a.roots[k as usize] as usize) < a.states.len()
 }
 
 /// Whether no offset is over 64 in absolute value.
@@ -98,7 +98,8 @@ fn has_outer(a: &Automaton, g: u32) -> bool
     ensures { IsTrue result ↔ HasOuter a.now g }
 {
     let outer = a.outer(g);
-    (outer.corner as usize) < a.corners.len() && (outer.place as usize) + 1 < a.valence(outer.corner)
+    (outer.corner as usize) < a.corners.len()
+        && (outer.place as usize) + 1 < a.valence(outer.corner)
 }
 
 /// Whether the kind and the residue of a state are there, and a rule and a claim for each side.
@@ -148,6 +149,7 @@ fn has_targets(tess: &Tessellation, a: &Automaton, s: u32) -> bool
 }
 
 /// Whether a part holds at an index.
+#[tactic(auto, unfolding(crate::specs::Broken::PartHolds))]
 fn holds(part: TablePart, tess: &Tessellation, a: &Automaton, index: u32) -> bool
     requires ready { IsPartReady part tess.now a.now }
     requires index { index < part_size tess.now a.now (part_number part) }
@@ -155,7 +157,7 @@ fn holds(part: TablePart, tess: &Tessellation, a: &Automaton, index: u32) -> boo
 {
     match part {
         TablePart::Limits => has_limits(tess, a),
-        TablePart::Roots => has_root_state(a, index as u8),
+        TablePart::Roots => has_root_state(a, index),
         TablePart::Offsets => has_offsets(a, index),
         TablePart::Outers => has_outer(a, index),
         TablePart::Sizes => has_tables(tess, a, index),

@@ -1,5 +1,5 @@
 -- Texts of walks: each byte is the code of a letter, and no two walks have one text.
-use Rattle.std.proofs.Common.{◌≡◌, ◌≢◌, ℕ, zero, suc, ◌<◌, List, [], ◌∷◌, map, length, get_or, nat_eq, if◌then◌else◌, refl, ap, ap₂, arith, ◌∙◌, sym}
+use Rattle.std.proofs.Common.{◌≡◌, ◌≢◌, ℕ, zero, suc, ◌<◌, List, [], ◌∷◌, map, length, get_or, nat_eq, ◌==◌, true, false, if◌then◌else◌, subst, refl, ap, ap₂, arith, ◌∙◌, sym}
 use Rattle.tile_model.specs.declared.Letter.{Letter}
 use Rattle.tile_model.specs.declared.Letter.TheVariants.{L, R, X}
 use Rattle.walk_words.specs.Text.{letter_code, walk_text}
@@ -39,3 +39,15 @@ one_walk [] [] same = refl
 one_walk [] (x ∷ w) same = absurd (not_dash x (sym (ap (λ (l : List ℕ). get_or l 0 0) same)))
 one_walk (x ∷ u) [] same = absurd (not_dash x (ap (λ (l : List ℕ). get_or l 0 0) same))
 one_walk (x ∷ u) (y ∷ w) same = sym (decode_codes (x ∷ u)) ∙ ap (map decode) same ∙ decode_codes (y ∷ w)
+
+-- the codes of the letters of a walk that is not empty are its text
+pub text_of_codes : (walk : List Letter) → ¬ (walk ≡ []) → walk_text walk ≡ map letter_code walk
+text_of_codes [] not_empty = absurd (not_empty refl)
+text_of_codes (x ∷ walk) not_empty = refl
+
+-- bytes, one at least, that are the codes of letters are the text of their walk
+pub text_of_bytes : (walk : List Letter) (bytes : List ℕ) → (length bytes == 0) ≡ false → map letter_code walk ≡ bytes → walk_text walk ≡ bytes
+text_of_bytes [] bytes some_byte codes =
+    let none : true ≡ false = subst (λ (bs : List ℕ). (length bs == 0) ≡ false) (sym codes) some_byte in
+    absurd (cc none)
+text_of_bytes (x ∷ walk) bytes some_byte codes = codes

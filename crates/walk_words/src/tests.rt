@@ -1,9 +1,8 @@
 // Walks read, turned back, printed and followed, with values reckoned by hand.
+use crate::{Letter, Walk, WalkFault, print_walk, read_walk, type_of};
 use std::alloc::{AllocError, Global};
 use std::test::Fail;
 use tile_kinds::{DartType, Kind, Tessellation};
-
-use crate::{Letter, Walk, WalkFault, print_walk, read_walk, type_of};
 
 #[test]
 fn walks_there_and_back(rt: HostRuntime) -> Result<(), Fail> {
@@ -20,9 +19,17 @@ fn walks_there_and_back(rt: HostRuntime) -> Result<(), Fail> {
             panic!(rt; "{text} was not read");
         };
         assert_eq!(rt; walk.crossings(), crossings, "crossings of {text}");
-        assert_eq!(rt; print_walk(alloc, &walk)?.as_slice(), text.as_bytes(), "{text} printed");
+        assert_eq!(rt;
+            print_walk(alloc, &walk)?.as_slice(),
+            text.as_bytes(),
+            "{text} printed"
+        );
         let inverse = walk.inverse(alloc)?;
-        assert_eq!(rt; print_walk(alloc, &inverse)?.as_slice(), back.as_bytes(), "the way back of {text}");
+        assert_eq!(rt;
+            print_walk(alloc, &inverse)?.as_slice(),
+            back.as_bytes(),
+            "the way back of {text}"
+        );
     }
     Ok(())
 }
@@ -63,7 +70,10 @@ fn goes_round_the_corner(rt: HostRuntime) -> Result<(), Fail> {
     let Ok(t) = Tessellation::make(heptagons_and_hexagons(alloc)?) else {
         panic!(rt; "refused");
     };
-    let start = DartType { kind: 0, residue: 0 };
+    let start = DartType {
+        kind: 0,
+        residue: 0,
+    };
     if !t.has(start) {
         panic!(rt; "no type");
     }

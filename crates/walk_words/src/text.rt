@@ -3,11 +3,10 @@ ghost use Rattle.std.specs.Prelude.{◌≡◌, ◌≢◌, List, IfOk, IfSome, If
 ghost use Rattle.tile_model.specs.declared.Letter.{Letter};
 ghost use Rattle.walk_words.specs.Text.{letter_code, walk_text};
 
+use crate::walk::Walk;
 use std::alloc::{AllocError, Global};
 use thiserror::Error;
 use tile_model::Letter;
-
-use crate::walk::Walk;
 
 /// Why no walk was read.
 #[derive(Clone, Copy, Debug, PartialEq, Eq, Error)]

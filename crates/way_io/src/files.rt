@@ -75,14 +75,21 @@ pub trait Files {
     /// where it has more than `limit` bytes; `Memory` where there is none for its bytes.
     fn fetch(&mut self, alloc: Global, name: &str, limit: u32) -> Result<Vec<u8>, FetchFault>
         ensures later { fetch_faults self.old ≤ fetch_faults self.new }
-        ensures cause { IsErrOf result FetchFault.Failed → Rose (fetch_faults self.old) (fetch_faults self.new) }
-        ensures uncounted { ¬ IsErrOf result FetchFault.Failed → fetch_faults self.new ≡ fetch_faults self.old }
+        ensures cause { IsErrOf result FetchFault.Failed
+            → Rose (fetch_faults self.old) (fetch_faults self.new) }
+        ensures uncounted { ¬ IsErrOf result FetchFault.Failed
+            → fetch_faults self.new ≡ fetch_faults self.old }
         ensures other_count { store_faults self.new ≡ store_faults self.old }
         ensures within { IfOk result (λ bytes. length bytes.items ≤ limit) }
-        ensures content { IsTrue tells → IfOk result (λ bytes. contents self.old name.now ≡ Some bytes.items) }
-        ensures missing { IsTrue tells → contents self.old name.now ≡ None → IsErrOf result FetchFault.Failed }
-        ensures too_long { IsTrue tells → IsErrOf result FetchFault.TooLong → IsLonger (contents self.old) name.now limit }
-        ensures longer { IsTrue tells → (bytes : List ℕ) → contents self.old name.now ≡ Some bytes → limit < length bytes → IsErrOf result FetchFault.TooLong ⊎ IsErrOf result FetchFault.Failed }
+        ensures content { IsTrue tells
+            → IfOk result (λ bytes. contents self.old name.now ≡ Some bytes.items) }
+        ensures missing { IsTrue tells → contents self.old name.now ≡ None
+            → IsErrOf result FetchFault.Failed }
+        ensures too_long { IsTrue tells → IsErrOf result FetchFault.TooLong
+            → IsLonger (contents self.old) name.now limit }
+        ensures longer { IsTrue tells → (bytes : List ℕ) → contents self.old name.now ≡ Some bytes
+            → limit < length bytes
+            → IsErrOf result FetchFault.TooLong ⊎ IsErrOf result FetchFault.Failed }
         ensures same { IsTrue tells → KeepsAll (contents self.old) (contents self.new) };
 
     /// Makes `bytes` the content of the file `name`, whether there was one or not. All other
@@ -94,9 +101,12 @@ pub trait Files {
     /// none for it. After either the content of that name is open.
     fn store(&mut self, name: &str, bytes: &[u8]) -> Result<(), StoreFault>
         ensures later { store_faults self.old ≤ store_faults self.new }
-        ensures cause { IsErrOf result StoreFault.Failed → Rose (store_faults self.old) (store_faults self.new) }
-        ensures uncounted { ¬ IsErrOf result StoreFault.Failed → store_faults self.new ≡ store_faults self.old }
+        ensures cause { IsErrOf result StoreFault.Failed
+            → Rose (store_faults self.old) (store_faults self.new) }
+        ensures uncounted { ¬ IsErrOf result StoreFault.Failed
+            → store_faults self.new ≡ store_faults self.old }
         ensures other_count { fetch_faults self.new ≡ fetch_faults self.old }
         ensures content { IsTrue tells → OnOk result (contents self.new name.now ≡ Some bytes.now) }
-        ensures others { IsTrue tells → KeepsOthers (contents self.old) (contents self.new) name.now };
+        ensures others { IsTrue tells
+            → KeepsOthers (contents self.old) (contents self.new) name.now };
 }

@@ -1,6 +1,5 @@
 // A source of many copies of one byte.
-ghost use Rattle.std.specs.Prelude.{◌≡◌, ◌↔◌, ◌<◌, ◌≤◌, ◌++◌, ℕ, [], true, length, min, take, replicate, IfOk, IsOk, IsTrue, OnErr};
-ghost use Rattle.way_io.specs.Counts.{Rose};
+ghost use Rattle.std.specs.Prelude.{◌≡◌, ◌++◌, true, length, min, take, replicate, IfOk, IsOk};
 ghost use Rattle.way_io.specs.InMemory.{fill_left};
 
 use crate::source::{ReadFault, Source};

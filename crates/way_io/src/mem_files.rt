@@ -84,16 +84,21 @@ impl Files for MemFiles {
     ghost store_faults = { failed_stores };
 
     fn fetch(&mut self, alloc: Global, name: &str, limit: u32) -> Result<Vec<u8>, FetchFault>
-        ensures fails { IsErrOf result FetchFault.Failed ↔ (IsTrue (next_fails (calls_of self.old)) ⊎ (contents_of self.old name.now ≡ None)) }
+        ensures fails { IsErrOf result FetchFault.Failed
+            ↔ (IsTrue (next_fails (calls_of self.old)) ⊎ (contents_of self.old name.now ≡ None)) }
         ensures within { IfOk result (λ bytes. length bytes.items ≤ limit) }
         ensures content { IfOk result (λ bytes. contents_of self.old name.now ≡ Some bytes.items) }
-        ensures too_long { IsErrOf result FetchFault.TooLong → IsLonger (contents_of self.old) name.now limit }
-        ensures longer { (bytes : List ℕ) → contents_of self.old name.now ≡ Some bytes → limit < length bytes → IsErrOf result FetchFault.TooLong ⊎ IsErrOf result FetchFault.Failed }
+        ensures too_long { IsErrOf result FetchFault.TooLong
+            → IsLonger (contents_of self.old) name.now limit }
+        ensures longer { (bytes : List ℕ) → contents_of self.old name.now ≡ Some bytes → limit < length bytes
+            → IsErrOf result FetchFault.TooLong ⊎ IsErrOf result FetchFault.Failed }
         ensures same { KeepsAll (contents_of self.old) (contents_of self.new) }
         ensures calls { calls_of self.new ≡ one_more (calls_of self.old) }
         ensures later { failed_fetches self.old ≤ failed_fetches self.new }
-        ensures counted { IsErrOf result FetchFault.Failed → failed_fetches self.new ≡ counted (failed_fetches self.old) }
-        ensures uncounted { ¬ IsErrOf result FetchFault.Failed → failed_fetches self.new ≡ failed_fetches self.old }
+        ensures counted { IsErrOf result FetchFault.Failed
+            → failed_fetches self.new ≡ counted (failed_fetches self.old) }
+        ensures uncounted { ¬ IsErrOf result FetchFault.Failed
+            → failed_fetches self.new ≡ failed_fetches self.old }
         ensures other_count { failed_stores self.new ≡ failed_stores self.old }
     {
         let fails = self.calls.next();
@@ -119,8 +124,10 @@ impl Files for MemFiles {
         ensures refused { OnErr result (KeepsAll (contents_of self.old) (contents_of self.new)) }
         ensures calls { calls_of self.new ≡ one_more (calls_of self.old) }
         ensures later { failed_stores self.old ≤ failed_stores self.new }
-        ensures counted { IsErrOf result StoreFault.Failed → failed_stores self.new ≡ counted (failed_stores self.old) }
-        ensures uncounted { ¬ IsErrOf result StoreFault.Failed → failed_stores self.new ≡ failed_stores self.old }
+        ensures counted { IsErrOf result StoreFault.Failed
+            → failed_stores self.new ≡ counted (failed_stores self.old) }
+        ensures uncounted { ¬ IsErrOf result StoreFault.Failed
+            → failed_stores self.new ≡ failed_stores self.old }
         ensures other_count { failed_fetches self.new ≡ failed_fetches self.old }
     {
         if self.calls.next() {

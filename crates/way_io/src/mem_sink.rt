@@ -1,7 +1,7 @@
 // A sink in memory.
 ghost use Rattle.std.specs.Prelude.{◌≡◌, ◌+◌, ◌≤◌, ◌<◌, ◌==◌, ◌||◌, ◌++◌, [], true, length, take, min, is_err, if◌then◌else◌, IfOk, OnErr};
 ghost use Rattle.std.specs.Vec.{vec_len, vec_capacity};
-ghost use Rattle.way_io.specs.Counts.{counted, Rose};
+ghost use Rattle.way_io.specs.Counts.{counted};
 ghost use Rattle.way_io.specs.Calls.{no_calls, one_more, next_fails};
 ghost use Rattle.way_io.specs.InMemory.{SinkState};
 
@@ -23,7 +23,8 @@ pub struct MemSink {
 impl Model for MemSink {
     ghost Value = { SinkState };
 
-    ghost view = { λ s. record { taken = s.bytes.items; room = s.room; step = s.step; calls = s.calls; faults = s.faults } };
+    ghost view = { λ s.
+        record { taken = s.bytes.items; room = s.room; step = s.step; calls = s.calls; faults = s.faults } };
 
     ghost invariant = { λ s. (vec_len s.bytes + s.room ≤ vec_capacity s.bytes) × (1 ≤ s.step) };
 }
@@ -37,7 +38,8 @@ impl MemSink {
     /// `AllocError` where there is no memory for `room` bytes and the copy of `failing`.
     pub fn new(alloc: Global, room: u32, step: u32, failing: &[u32]) -> Result<MemSink, AllocError>
         requires { 1 ≤ step }
-        ensures { IfOk result (λ sink. sink ≡ record { taken = []; room = room; step = step; calls = no_calls failing.now; faults = 0 }) }
+        ensures { IfOk result (λ sink.
+            sink ≡ record { taken = []; room = room; step = step; calls = no_calls failing.now; faults = 0 }) }
     {
         Ok(MemSink {
             bytes: Vec::with_capacity(alloc, room as usize)?,
@@ -72,7 +74,8 @@ impl Sink for MemSink {
         ensures room { IfOk result (λ n. self.old.room ≡ self.new.room + n) }
         ensures kept { OnErr result (self.new.taken ≡ self.old.taken) }
         ensures room_kept { OnErr result (self.new.room ≡ self.old.room) }
-        ensures faults { self.new.faults ≡ (if is_err result then counted self.old.faults else self.old.faults) }
+        ensures faults { self.new.faults ≡
+            (if is_err result then counted self.old.faults else self.old.faults) }
         ensures later { self.old.faults ≤ self.new.faults }
         ensures calls { self.new.calls ≡ one_more self.old.calls }
         ensures step { self.new.step ≡ self.old.step }

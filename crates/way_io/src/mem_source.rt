@@ -1,6 +1,6 @@
 // A source over bytes in memory.
 ghost use Rattle.std.specs.Prelude.{◌≡◌, ◌≤◌, ◌<◌, ◌↔◌, ◌++◌, [], true, length, take, drop, min, is_err, if◌then◌else◌, IfOk, OnErr};
-ghost use Rattle.way_io.specs.Counts.{counted, Rose};
+ghost use Rattle.way_io.specs.Counts.{counted};
 ghost use Rattle.way_io.specs.Calls.{no_calls, one_more, next_fails};
 ghost use Rattle.way_io.specs.InMemory.{SourceState};
 
@@ -22,7 +22,8 @@ pub struct MemSource {
 impl Model for MemSource {
     ghost Value = { SourceState };
 
-    ghost view = { λ s. record { left = drop s.at s.bytes.items; step = s.step; calls = s.calls; faults = s.faults } };
+    ghost view = { λ s.
+        record { left = drop s.at s.bytes.items; step = s.step; calls = s.calls; faults = s.faults } };
 
     ghost invariant = { λ s. (s.at ≤ length s.bytes.items) × (1 ≤ s.step) };
 }
@@ -41,7 +42,8 @@ impl MemSource {
         failing: &[u32],
     ) -> Result<MemSource, AllocError>
         requires { 1 ≤ step }
-        ensures { IfOk result (λ source. source ≡ record { left = bytes.now; step = step; calls = no_calls failing.now; faults = 0 }) }
+        ensures { IfOk result (λ source.
+            source ≡ record { left = bytes.now; step = step; calls = no_calls failing.now; faults = 0 }) }
     {
         Ok(MemSource {
             bytes: bytes.to_vec(alloc)?,
@@ -66,7 +68,8 @@ impl Source for MemSource {
         ensures next { IfOk result (λ n. self.old.left ≡ take n buf.new ++ self.new.left) }
         ensures end { 0 < length buf.new → IfOk result (λ n. (n ≡ 0) ↔ (self.old.left ≡ [])) }
         ensures kept { OnErr result (self.new.left ≡ self.old.left) }
-        ensures faults { self.new.faults ≡ (if is_err result then counted self.old.faults else self.old.faults) }
+        ensures faults { self.new.faults ≡
+            (if is_err result then counted self.old.faults else self.old.faults) }
         ensures later { self.old.faults ≤ self.new.faults }
         ensures calls { self.new.calls ≡ one_more self.old.calls }
         ensures step { self.new.step ≡ self.old.step }

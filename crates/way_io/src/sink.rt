@@ -31,7 +31,8 @@ pub trait Sink {
     fn write(&mut self, bytes: &[u8]) -> Result<usize, WriteFault>
         ensures within { IfOk result (λ n. n ≤ length bytes.now) }
         ensures some { 0 < length bytes.now → IfOk result (λ n. 0 < n) }
-        ensures appended { IsTrue tells → IfOk result (λ n. taken self.new ≡ taken self.old ++ take n bytes.now) }
+        ensures appended { IsTrue tells
+            → IfOk result (λ n. taken self.new ≡ taken self.old ++ take n bytes.now) }
         ensures kept { IsTrue tells → OnErr result (taken self.new ≡ taken self.old) }
         ensures uncounted { OnOk result (faults self.new ≡ faults self.old) }
         ensures later { faults self.old ≤ faults self.new }

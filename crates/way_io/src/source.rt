@@ -29,8 +29,10 @@ pub trait Source {
     /// A read that fails is counted, and no byte is lost by it.
     fn read(&mut self, buf: &mut [u8]) -> Result<usize, ReadFault>
         ensures within { IfOk result (λ n. n ≤ length buf.new) }
-        ensures next { IsTrue tells → IfOk result (λ n. left self.old ≡ take n buf.new ++ left self.new) }
-        ensures end { IsTrue tells → 0 < length buf.new → IfOk result (λ n. (n ≡ 0) ↔ (left self.old ≡ [])) }
+        ensures next { IsTrue tells
+            → IfOk result (λ n. left self.old ≡ take n buf.new ++ left self.new) }
+        ensures end { IsTrue tells → 0 < length buf.new
+            → IfOk result (λ n. (n ≡ 0) ↔ (left self.old ≡ [])) }
         ensures kept { IsTrue tells → OnErr result (left self.new ≡ left self.old) }
         ensures uncounted { OnOk result (faults self.new ≡ faults self.old) }
         ensures later { faults self.old ≤ faults self.new }

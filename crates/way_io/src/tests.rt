@@ -3,6 +3,9 @@ use crate::{
     FetchFault, Files, FillSource, HostFiles, MemFiles, MemSink, MemSource, ReadFault, Sink,
     Source, StdSink, StdSource, StoreFault, WriteFault, write_piece,
 };
+use std::alloc::Allocator;
+use std::io;
+use std::io::{BufRead, Cursor, Input, Lines};
 use std::test::Fail;
 
 #[test]
@@ -47,16 +50,23 @@ fn a_sink_takes_a_prefix(rt: HostRuntime) -> Result<(), Fail> {
     Ok(())
 }
 
+fn holds(files: &MemFiles, name: &str, want: &[u8]) -> bool {
+    match files.content(name) {
+        Some(bytes) => bytes == want,
+        None => false,
+    }
+}
+
 #[test]
 fn files_go_on_after_faults(rt: HostRuntime) -> Result<(), Fail> {
     let alloc = rt.alloc();
     let mut files = MemFiles::new(alloc, &[2, 4])?;
     files.add("hr.tess", b"tess 1\n")?;
-    assert_eq!(rt; files.content("hr.tess"), Some(b"tess 1\n".as_slice()));
-    assert_eq!(rt; files.content("hr"), None);
+    assert!(rt; holds(&files, "hr.tess", b"tess 1\n"));
+    assert!(rt; files.content("hr").is_none());
     assert_eq!(rt; files.store("x.json", b"{}"), Ok(()));
     assert_eq!(rt; files.store("x.json", b"[]"), Err(StoreFault::Failed));
-    assert_eq!(rt; files.content("x.json"), Some(b"{}".as_slice()));
+    assert!(rt; holds(&files, "x.json", b"{}"));
     assert_eq!(rt; files.store("x.json", b"[]"), Ok(()));
     assert_eq!(rt;
         files.fetch(alloc, "x.json", 2).err(),
@@ -103,10 +113,39 @@ fn the_machine_keeps_a_file(rt: HostRuntime) -> Result<(), Fail> {
     Ok(())
 }
 
+// A runtime whose standard input is a few bytes.
+struct Typed;
+
+impl Input for Typed {
+    type Reader = Cursor<[u8; 5]>;
+
+    fn read_line<A: Allocator + Clone>(&self, buf: &mut String<A>) -> io::Result<usize> {
+        self.reader().read_line(buf)
+    }
+
+    fn lines<A: Allocator>(&self, alloc: A) -> Lines<Cursor<[u8; 5]>, A> {
+        self.reader().lines(alloc)
+    }
+
+    fn reader(&self) -> Cursor<[u8; 5]> {
+        Cursor::new(*b"new 0")
+    }
+}
+
 #[test]
-fn standard_streams_are_reached(rt: HostRuntime) -> Result<(), Fail> {
-    let mut nothing = [0u8; 0];
-    assert_eq!(rt; StdSource::new(&rt).read(&mut nothing), Ok(0));
+fn standard_input_is_read_to_its_end(rt: HostRuntime) -> Result<(), Fail> {
+    let mut source = StdSource::new(&Typed);
+    let mut buf = [0u8; 3];
+    assert_eq!(rt; source.read(&mut buf), Ok(3));
+    assert_eq!(rt; buf.as_slice(), b"new".as_slice());
+    assert_eq!(rt; source.read(&mut buf), Ok(2));
+    assert_eq!(rt; &buf[..2], b" 0".as_slice());
+    assert_eq!(rt; source.read(&mut buf), Ok(0));
+    Ok(())
+}
+
+#[test]
+fn standard_output_is_reached(rt: HostRuntime) -> Result<(), Fail> {
     assert_eq!(rt;
         write_piece(&mut StdSink::new(&rt), b"standard output is reached\n"),
         Ok(())

@@ -1,0 +1,223 @@
+// Automata of which it is known by hand whether they are accepted, and where not.
+use crate::check;
+use rules_data::Rule::{Child, Left, Parent, Right};
+use rules_data::{Automaton, Claim, Corner, Rule, State};
+use std::alloc::{AllocError, Global};
+use std::test::Fail;
+use tile_kinds::{Kind, Tessellation};
+
+fn kind(
+    alloc: Global,
+    sides: u8,
+    partner: &[(u8, u8)],
+    valence: &[u8],
+) -> Result<Kind, AllocError> {
+    Ok(Kind {
+        sides,
+        repeat: if partner.len() == 2 { 2 } else { 1 },
+        partner: Vec::from_slice(alloc, partner)?,
+        valence: Vec::from_slice(alloc, valence)?,
+    })
+}
+
+fn state(
+    alloc: Global,
+    (kind, off): (u8, u8),
+    rules: &[Rule],
+    claims: &[(u32, u8)],
+) -> Result<State, AllocError> {
+    let mut list = Vec::new(alloc);
+    for (corner, place) in claims {
+        list.push(Claim {
+            corner: *corner,
+            place: *place,
+        })?;
+    }
+    Ok(State {
+        kind,
+        off,
+        rules: Vec::from_slice(alloc, rules)?,
+        claims: list,
+    })
+}
+
+fn corner(
+    alloc: Global,
+    offsets: &[i8],
+    (corner, place): (u32, u8),
+    rank: u32,
+) -> Result<Corner, AllocError> {
+    Ok(Corner {
+        offsets: Vec::from_slice(alloc, offsets)?,
+        outer: Claim { corner, place },
+        rank,
+    })
+}
+
+// The states of pentagons, four at a corner, with this rule at side 2 of state 2, and the corner types handed in.
+fn pentagons(alloc: Global, rule: Rule, corners: Vec<Corner>) -> Result<Automaton, AllocError> {
+    let one = [Parent, Right, Child(1), Child(1), Child(2)];
+    let two = [Parent, Right, rule, Child(2), Left];
+    let mut states = Vec::new(alloc);
+    states.push(state(alloc, (0, 0), &[Child(1); 5], &[(0, 2); 5])?)?;
+    states.push(state(
+        alloc,
+        (0, 0),
+        &one,
+        &[(0, 3), (0, 2), (0, 2), (0, 2), (0, 1)],
+    )?)?;
+    states.push(state(
+        alloc,
+        (0, 0),
+        &two,
+        &[(0, 3), (0, 2), (0, 2), (0, 1), (0, 0)],
+    )?)?;
+    Ok(Automaton {
+        states,
+        corners,
+        roots: vec![in alloc; 0]?,
+        scale: 1,
+    })
+}
+
+// Three tiles at each corner, the first corner type of this rank.
+fn threes(alloc: Global, rank: u32) -> Result<Vec<Corner>, AllocError> {
+    let mut corners = Vec::new(alloc);
+    corners.push(corner(alloc, &[0, -1, 0], (1, 1), rank)?)?;
+    corners.push(corner(alloc, &[0, -1, -1], (0, 0), 0)?)?;
+    Ok(corners)
+}
+
+#[test]
+fn finds_the_first_broken_place(rt: HostRuntime) -> Result<(), Fail> {
+    let alloc = rt.alloc();
+    let cases = [
+        (4, 1, Child(1), false, None),
+        (4, 1, Child(1), true, None),
+        (3, 1, Child(1), false, Some((4, 0, 0))),
+        (4, 0, Child(1), false, Some((7, 2, 4))),
+        (4, 1, Child(3), false, Some((1, 2, 5))),
+        (4, 1, Parent, false, Some((2, 2, 2))),
+    ];
+    for (valence, place, rule, more, want) in cases {
+        let kinds = vec![in alloc; kind(alloc, 5, &[(0, 0)], &[valence])?]?;
+        let mut corners = Vec::new(alloc);
+        corners.push(corner(alloc, &[0, -1, -2, -1], (0, place), 0)?)?;
+        if more {
+            corners.push(corner(alloc, &[0, 0, -1], (0, 1), 0)?)?;
+        }
+        let Ok(tess) = Tessellation::make(kinds) else {
+            panic!(rt; "no tessellation");
+        };
+        let got = match check(tess, pentagons(alloc, rule, corners)?) {
+            Ok(rules) => {
+                assert_eq!(rt; rules.tessellation().kinds(), 1);
+                assert_eq!(rt; rules.automaton().states.len(), 3);
+                None
+            }
+            Err((_, a, broken)) => {
+                assert_eq!(rt; a.states.len(), 3);
+                Some((broken.condition, broken.first, broken.second))
+            }
+        };
+        assert_eq!(rt; got, want);
+    }
+    Ok(())
+}
+
+// The states of heptagons, three at a corner.
+fn heptagons(alloc: Global) -> Result<Vec<State>, AllocError> {
+    let one = [Parent, Right, Right, Child(1), Child(1), Child(2), Left];
+    let two = [Parent, Right, Right, Child(1), Child(2), Left, Left];
+    let ones = [(0, 2), (1, 2), (0, 1), (0, 1), (0, 1), (1, 1), (0, 0)];
+    let twos = [(0, 2), (1, 2), (0, 1), (0, 1), (1, 1), (0, 0), (1, 0)];
+    let mut states = Vec::new(alloc);
+    states.push(state(alloc, (0, 0), &[Child(1); 7], &[(0, 1); 7])?)?;
+    states.push(state(alloc, (0, 0), &one, &ones)?)?;
+    states.push(state(alloc, (0, 0), &two, &twos)?)?;
+    Ok(states)
+}
+
+// The states of heptagons and hexagons, three at a corner.
+fn heptagons_and_hexagons(alloc: Global) -> Result<Vec<State>, AllocError> {
+    let four = [(0, 2), (1, 2), (0, 1), (0, 1), (1, 1), (0, 0)];
+    let six = [(0, 2), (1, 2), (0, 1), (1, 1), (0, 0), (1, 0)];
+    let wide = [(0, 2), (1, 2), (0, 1), (0, 1), (0, 1), (1, 1), (0, 0)];
+    let narrow = [(0, 2), (1, 2), (0, 1), (0, 1), (1, 1), (0, 0), (1, 0)];
+    let root = [Child(6), Child(3), Child(6), Child(3), Child(6), Child(3)];
+    let mut states = Vec::new(alloc);
+    states.push(state(alloc, (0, 0), &[Child(2); 7], &[(0, 1); 7])?)?;
+    states.push(state(alloc, (1, 0), &root, &[(0, 1); 6])?)?;
+    states.push(state(
+        alloc,
+        (1, 0),
+        &[Parent, Right, Right, Child(3), Child(7), Left],
+        &four,
+    )?)?;
+    states.push(state(
+        alloc,
+        (1, 1),
+        &[Parent, Right, Right, Child(6), Child(5), Left],
+        &four,
+    )?)?;
+    states.push(state(
+        alloc,
+        (1, 0),
+        &[Parent, Right, Right, Child(5), Left, Left],
+        &six,
+    )?)?;
+    states.push(state(
+        alloc,
+        (1, 1),
+        &[Parent, Right, Right, Child(7), Left, Left],
+        &six,
+    )?)?;
+    let seventh = [Parent, Right, Right, Child(2), Child(2), Child(4), Left];
+    states.push(state(alloc, (0, 0), &seventh, &wide)?)?;
+    let eighth = [Parent, Right, Right, Child(2), Child(4), Left, Left];
+    states.push(state(alloc, (0, 0), &eighth, &narrow)?)?;
+    Ok(states)
+}
+
+#[test]
+fn accepts_three_at_a_corner(rt: HostRuntime) -> Result<(), Fail> {
+    let alloc = rt.alloc();
+    for (rank, kinds, want) in [(1, 1, None), (0, 1, Some((12, 1, 0))), (1, 2, None)] {
+        let mut list = Vec::new(alloc);
+        if kinds == 1 {
+            list.push(kind(alloc, 7, &[(0, 0)], &[3])?)?;
+        } else {
+            list.push(kind(alloc, 7, &[(1, 0)], &[3])?)?;
+            list.push(kind(alloc, 6, &[(0, 0), (1, 1)], &[3, 3])?)?;
+        }
+        let Ok(tess) = Tessellation::make(list) else {
+            panic!(rt; "no tessellation");
+        };
+        let states = if kinds == 1 {
+            heptagons(alloc)?
+        } else {
+            heptagons_and_hexagons(alloc)?
+        };
+        let roots = if kinds == 1 {
+            vec![in alloc; 0]?
+        } else {
+            vec![in alloc; 0, 1]?
+        };
+        let a = Automaton {
+            states,
+            corners: threes(alloc, rank)?,
+            roots,
+            scale: 2,
+        };
+        let got = match check(tess, a) {
+            Ok(rules) => {
+                let (tess, a) = rules.into_parts();
+                assert_eq!(rt; (tess.kinds(), a.scale), (kinds, 2));
+                None
+            }
+            Err((_, _, broken)) => Some(broken),
+        };
+        assert_eq!(rt; got.map(|b| (b.condition, b.first, b.second)), want);
+    }
+    Ok(())
+}
