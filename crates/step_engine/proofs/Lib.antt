@@ -1,1 +1,3 @@
 pub mod Detours
+pub mod Contours
+pub mod Walks

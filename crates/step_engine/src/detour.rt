@@ -1,9 +1,10 @@
 //! The way along the contour of the tree from a spot, which itself stays where it is until the way is accepted.
-ghost use Rattle.std.specs.Prelude.{◌≡◌, ◌≢◌, ◌<◌, ◌≤◌, ◌+◌, ◌^◌, Bool, true, false, nat_eq, List, [], ◌∷◌, ◌++◌, length, IfOk, OnOk, OnErr, IsErrOf};
+ghost use Rattle.std.specs.Prelude.{◌≡◌, ◌≢◌, ◌↔◌, ◌<◌, ◌≤◌, ◌+◌, ◌^◌, Bool, true, false, nat_eq, List, [], ◌∷◌, ◌++◌, length, IfOk, OnOk, OnErr, IsErrOf, IsTrue};
 ghost use Rattle.structure_check.specs.Rules.{TreeRules};
+ghost use Rattle.tree_model.specs.Automata.{next, previous, rank, side_count};
 ghost use Rattle.tree_model.specs.Contours.{Opens};
 ghost use Rattle.turn_rules.specs.Spots.{IsSpot, root_kind, tile_state, faced_rule, position};
-ghost use Rattle.turn_rules.specs.Directions.{turned, mark_towards};
+ghost use Rattle.turn_rules.specs.Directions.{turned, mark_towards, inner_corner, bound};
 ghost use Rattle.step_engine.specs.Detours.{IsShaped, IsDetour, IsAbove, ComesTo, HasMoved, HasCrossed, HasStepped, spot_there, there};
 ghost use Rattle.step_engine.specs.Crossings.{IsDeepAcross};
 
@@ -12,7 +13,7 @@ use smallvec::SmallVec;
 use std::alloc::AllocError;
 use structure_check::Rules;
 use tree_model::Rule;
-use turn_rules::{Spot, next_left, next_right, rule};
+use turn_rules::{Spot, corner_rank, next_left, next_right, rule};
 use walk_words::Letter;
 
 /// How many sides below the spot's own name a detour keeps without an allocation.
@@ -42,12 +43,12 @@ impl Detour {
         }
     }
 
-    /// How many sides the name of the place has.
-    pub(crate) fn depth(&self, s: &Spot) -> usize
+    /// Whether the name of the place has more than 4,000 sides.
+    fn is_deep(&self, s: &Spot) -> bool
         requires { IsShaped s.now self.now }
-        ensures { result ≡ length (there s.now self.now).name }
+        ensures { IsTrue result ↔ (DEEPEST < length (there s.now self.now).name) }
     {
-        self.kept + self.sides.len()
+        self.kept > DEEPEST || self.sides.len() > DEEPEST - self.kept
     }
 
     fn state(&self, s: &Spot) -> u32
@@ -73,12 +74,7 @@ impl Detour {
         ensures { ComesTo r.now s.now (turned r.now.kinds r.now.automaton (root_kind r.now s.now) leftwards (there s.now self.old)) self.new }
     {
         let _ = r.automaton();
-        let state = self.state(s);
-        self.spin = if leftwards {
-            next_left(r, state, self.spin)
-        } else {
-            next_right(r, state, self.spin)
-        };
+        self.spin = beside(r, self.state(s), self.spin, leftwards);
     }
 
     fn down(&mut self, child: u32) -> Result<(), AllocError>
@@ -99,16 +95,38 @@ impl Detour {
         ensures shape { IsShaped s.now self.new }
         ensures above { IsAbove (spot_there s.now self.new) (spot_there s.now self.old) }
     {
-        self.spin = match self.sides.pop() {
-            Some(side) => {
-                self.states.pop();
-                side
-            }
-            None => {
-                self.kept -= 1;
-                s.name().sides()[self.kept]
-            }
-        };
+        if let Some(side) = self.sides.pop() {
+            self.states.pop();
+            self.spin = side;
+            return;
+        }
+        self.kept -= 1;
+        self.spin = s.name().sides()[self.kept];
+    }
+
+    /// The rank of the corner at the inner end of the faced side. It bounds how many brackets can be open on the way from there.
+    fn inner_rank(&self, s: &Spot, r: &Rules, leftwards: bool) -> u32
+        requires { IsDetour r.now s.now self.now }
+        ensures { result ≡ rank r.now.automaton (inner_corner r.now.kinds r.now.automaton (root_kind r.now s.now) leftwards (there s.now self.now)) }
+    {
+        let _ = r.automaton();
+        let state = self.state(s);
+        if leftwards {
+            corner_rank(r, state, self.spin)
+        } else {
+            corner_rank(r, state, next_right(r, state, self.spin))
+        }
+    }
+
+    /// On the way from here, in this direction, the counter of open brackets stays below the bound of the weight, which is small.
+    fn counter_fits(&self, s: &Spot, r: &Rules, leftwards: bool)
+        requires { IsDetour r.now s.now self.now }
+        ensures { bound r.now.kinds r.now.automaton (root_kind r.now s.now) leftwards (there s.now self.now) < 2 ^ 127 }
+    {
+        let _ = r.automaton();
+        let _rank = self.inner_rank(s, r, leftwards);
+        let _level = s.level();
+        let _entered = self.sides.len();
     }
 
     /// One move along the contour: a turn, and then across a side of the tree, or past a bracket, which is counted. It answers whether no
@@ -119,6 +137,7 @@ impl Detour {
         requires few { brackets.old < 2 ^ 127 }
         ensures { IfOk result (λ done. HasMoved r.now s.now leftwards self.old brackets.old done self.new brackets.new) }
     {
+        let _ = r.automaton();
         self.turn(s, r, leftwards);
         match self.rule(s, r) {
             Rule::Parent => {
@@ -140,7 +159,8 @@ impl Detour {
         requires opens { mark_towards r.now.kinds r.now.automaton (root_kind r.now s.now) leftwards (there s.now self.old) ≡ Opens }
         ensures { OnOk result (HasCrossed r.now s.now self.old self.new) }
     {
-        let _ = (r.automaton(), s.level());
+        let _ = r.automaton();
+        self.counter_fits(s, r, leftwards);
         let mut brackets: u128 = 1;
         while !self.go_on(s, r, leftwards, &mut brackets)? {}
         Ok(())
@@ -157,7 +177,10 @@ impl Detour {
                 self.up(s);
                 Ok(())
             }
-            Rule::Child(child) => self.down(child),
+            Rule::Child(child) => {
+                self.down(child)?;
+                Ok(())
+            }
             Rule::Left => self.contour(s, r, true),
             Rule::Right => self.contour(s, r, false),
         }
@@ -171,7 +194,7 @@ impl Detour {
         ensures deep { IsErrOf result StepFault.Deep → IsDeepAcross r.now (root_kind r.now s.now) (there s.now self.old) DEEPEST }
     {
         self.arrive(s, r)?;
-        if self.depth(s) > DEEPEST {
+        if self.is_deep(s) {
             return Err(StepFault::Deep);
         }
         Ok(())
@@ -205,6 +228,20 @@ impl Detour {
     {
         let _ = r.automaton();
         s.rejoin(self.kept, self.sides.as_slice(), self.states.as_slice(), self.spin)
+    }
+}
+
+/// The side next to a side, in one of the directions.
+fn beside(r: &Rules, state: u32, side: u8, leftwards: bool) -> u8
+    requires state { state < length r.now.automaton.states }
+    requires side { side < side_count r.now.kinds r.now.automaton state }
+    ensures left { leftwards ≡ true → result ≡ next (side_count r.now.kinds r.now.automaton state) side }
+    ensures right { leftwards ≡ false → result ≡ previous (side_count r.now.kinds r.now.automaton state) side }
+{
+    if leftwards {
+        next_left(r, state, side)
+    } else {
+        next_right(r, state, side)
     }
 }
 

@@ -60,6 +60,7 @@ pub fn cross(s: &mut Spot, r: &Rules) -> Result<(), StepFault>
     ensures too_deep { CrossesDeep r.now s.old DEEPEST → IsErrOf result StepFault.Deep ⊎ IsErrOf result StepFault.Memory }
     ensures unchanged { OnErr result (s.new ≡ s.old) }
 {
+    let _ = r.automaton();
     let mut detour = Detour::start(s);
     detour.cross(s, r)?;
     detour.finish(s, r)?;
@@ -82,6 +83,7 @@ pub fn walk(s: &mut Spot, r: &Rules, w: &Walk) -> Result<(), StepFault>
     ensures too_deep { WalksDeep r.now s.old w.now DEEPEST → IsErrOf result StepFault.Deep ⊎ IsErrOf result StepFault.Memory }
     ensures unchanged { OnErr result (s.new ≡ s.old) }
 {
+    let _ = r.automaton();
     let mut detour = Detour::start(s);
     for x in w.letters() {
         detour.step(s, r, *x)?;
@@ -107,7 +109,7 @@ pub fn spot_walk(alloc: Global, s: &Spot) -> Result<Walk, AllocError>
 fn push_lefts(walk: &mut Walk, count: u8) -> Result<(), AllocError>
     ensures { OnOk result (walk.new ≡ walk.old ++ replicate count L) }
 {
-    for _turn in 0..count {
+    for turn in 0..count {
         walk.push(Letter::L)?;
     }
     Ok(())
