@@ -17,7 +17,7 @@ use Rattle.step_engine.specs.Detours.{IsDetour, ComesTo, HasCrossed, HasStepped,
 -- a fault that is handed on is the same
 pub same_fault : {T E : Type 0} (r : Result T E) (e x : E) → IsErrAnd r (λ y. y ≡ e) → IsErrOf r x → e ≡ x
 same_fault (Ok t) e x is of = absurd is
-same_fault (Err y) e x is of = sym is ∙ of
+same_fault (Err y) e x is of = let f : y ≡ x = cc in sym is ∙ f
 
 -- The detour is where the walk leads from the spot, and no crossing on the way arrived at a name of more than `most` sides.
 pub record HasWalked (r : TreeRules) (s : TreeSpot) (w : List Letter) (most : ℕ) (d : Detour) : Type 0 where
