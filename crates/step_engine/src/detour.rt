@@ -131,7 +131,13 @@ impl Detour {
 
     /// One move along the contour: a turn, and then across a side of the tree, or past a bracket, which is counted. It answers whether no
     /// bracket is left open.
-    fn go_on(&mut self, s: &Spot, r: &Rules, leftwards: bool, brackets: &mut u128) -> Result<bool, AllocError>
+    fn go_on(
+        &mut self,
+        s: &Spot,
+        r: &Rules,
+        leftwards: bool,
+        brackets: &mut u128,
+    ) -> Result<bool, AllocError>
         requires detour { IsDetour r.now s.now self.old }
         requires some { 1 ≤ brackets.old }
         requires few { brackets.old < 2 ^ 127 }
@@ -227,7 +233,12 @@ impl Detour {
         ensures unchanged { OnErr result (s.new ≡ s.old) }
     {
         let _ = r.automaton();
-        s.rejoin(self.kept, self.sides.as_slice(), self.states.as_slice(), self.spin)
+        s.rejoin(
+            self.kept,
+            self.sides.as_slice(),
+            self.states.as_slice(),
+            self.spin,
+        )
     }
 }
 

@@ -4,6 +4,8 @@
 mod detour;
 mod fault;
 mod steps;
+#[cfg(test)]
+mod tests;
 
 pub use fault::{DEEPEST, StepFault};
 pub use steps::{cross, root_spot, spot_walk, turn_left, turn_right, walk};
