@@ -17,5 +17,6 @@ pub mod Places
 pub mod Levels
 pub mod Falls
 pub mod Together
+pub mod Spots
 pub mod Shortest
 pub mod RingTiles

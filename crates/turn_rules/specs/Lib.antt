@@ -2,3 +2,4 @@ pub mod Plane
 pub mod Machine
 pub mod Directions
 pub mod Laws
+pub mod Spots
