@@ -1,5 +1,5 @@
 -- The lines of replies.
-use Rattle.std.specs.Prelude.{ℕ, List, [], ◌∷◌, ◌++◌, codes, decimal}
+use Rattle.std.specs.Prelude.{◌≡◌, ℕ, List, [], ◌∷◌, ◌++◌, length, take, codes, decimal}
 use Rattle.reply_model.specs.declared.Reply.{Reply}
 use Rattle.reply_model.specs.declared.Reply.TheVariants.{Done, At, Yes, No, NoWalker, Taken, Deep}
 use Rattle.cell_names.specs.Text.{name_text}
@@ -26,3 +26,7 @@ reply_words Deep = codes "deep"
 -- the line of a reply, with its line feed
 abbrev pub reply_text : Reply → List ℕ
 reply_text x = reply_words x ++ line_feed
+
+-- the bytes begin with these
+abbrev pub Begins : List ℕ → List ℕ → Type 0
+Begins bytes front = take (length front) bytes ≡ front

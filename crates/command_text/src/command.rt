@@ -4,7 +4,7 @@ ghost use Rattle.reply_model.specs.declared.Command.{Command as CommandData};
 ghost use Rattle.tile_model.specs.declared.Letter.{Letter};
 ghost use Rattle.walk_words.specs.Text.{walk_text};
 ghost use Rattle.command_text.specs.Lines.{space, IsWalker, IsSpelling};
-ghost use Rattle.command_text.proofs.Words.{IsInFront, LacksSpace};
+ghost use Rattle.command_text.specs.Words.{IsInFront, LacksSpace};
 
 use reply_model::Command;
 use std::alloc::{AllocError, Global};
@@ -104,7 +104,7 @@ fn read_form(alloc: Global, line: &[u8]) -> Result<Command, LineFault>
 }
 
 /// What stands behind a word that the bytes begin with.
-fn strip(bytes: &[u8], word: &[u8]) -> Option<&[u8]>
+fn strip<'a>(bytes: &'a [u8], word: &[u8]) -> Option<&'a [u8]>
     ensures some { IfSome result (λ rest. bytes.now ≡ word.now ++ rest.now) }
     ensures none { IfNone result ((rest : List ℕ) → bytes.now ≢ word.now ++ rest) }
 {
@@ -138,6 +138,7 @@ fn take_walker(bytes: &[u8]) -> Result<(u8, &[u8]), LineFault>
 }
 
 /// The bytes in front of the first space, and those behind it.
+#[tactic(auto, using(crate::proofs::Words::lacks_more, crate::proofs::Words::lacks_all, crate::proofs::Words::split_at_space))]
 fn split_word(bytes: &[u8]) -> Option<(&[u8], &[u8])>
     ensures split { IfSome result (λ parts. bytes.now ≡ parts.0.now ++ space ∷ parts.1.now) }
     ensures first { IfSome result (λ parts. LacksSpace parts.0.now) }

@@ -1,7 +1,7 @@
 //! The lines of replies, printed.
-ghost use Rattle.std.specs.Prelude.{◌≡◌, ℕ, List, [], ◌∷◌, ◌++◌, codes, decimal, length, take, IfOk, OnOk, OnErr};
+ghost use Rattle.std.specs.Prelude.{◌≡◌, ℕ, List, [], ◌∷◌, ◌++◌, codes, decimal, IfOk, OnOk, OnErr};
 ghost use Rattle.cell_names.specs.Text.{name_text};
-ghost use Rattle.command_text.specs.Replies.{line_feed, place_words, reply_text};
+ghost use Rattle.command_text.specs.Replies.{Begins, line_feed, place_words, reply_text};
 
 use cell_names::Name;
 use itoa::Buffer;
@@ -63,29 +63,30 @@ fn write_place(out: &mut Vec<u8>, name: &Name, spin: u8, kind: u8) -> Result<(),
 /// Appends the line of a place, or some bytes.
 fn append_place(out: &mut Vec<u8>, name: &Name, spin: u8, kind: u8) -> Result<(), AllocError>
     ensures written { OnOk result (out.new.items ≡ out.old.items ++ place_words name.now spin kind ++ line_feed) }
-    ensures kept { OnErr result (take (length out.old.items) out.new.items ≡ out.old.items) }
+    ensures kept { OnErr result (Begins out.new.items out.old.items) }
 {
     out.extend_from_slice(b"at ")?;
     append_name(out, name)?;
-    append_number(out, spin)?;
-    append_number(out, kind)?;
-    out.push(b'\n')
+    append_number(out, b' ', spin)?;
+    append_number(out, b' ', kind)?;
+    out.push(b'\n')?;
+    Ok(())
 }
 
-/// Appends a space and a number, or leaves the bytes with what they began with.
-fn append_number(out: &mut Vec<u8>, number: u8) -> Result<(), AllocError>
-    ensures written { OnOk result (out.new.items ≡ out.old.items ++ 32 ∷ decimal number) }
-    ensures kept { OnErr result (take (length out.old.items) out.new.items ≡ out.old.items) }
+/// Appends a byte and a number, or some bytes.
+fn append_number(out: &mut Vec<u8>, separator: u8, number: u8) -> Result<(), AllocError>
+    ensures written { OnOk result (out.new.items ≡ out.old.items ++ separator ∷ decimal number) }
+    ensures kept { OnErr result (Begins out.new.items out.old.items) }
 {
     let mut buffer = Buffer::new();
-    out.push(b' ')?;
+    out.push(separator)?;
     out.extend_from_slice(buffer.format(number).as_bytes())
 }
 
 /// Appends the text of a name, or some bytes.
 fn append_name(out: &mut Vec<u8>, name: &Name) -> Result<(), AllocError>
     ensures written { OnOk result (out.new.items ≡ out.old.items ++ name_text name.now) }
-    ensures kept { OnErr result (take (length out.old.items) out.new.items ≡ out.old.items) }
+    ensures kept { OnErr result (Begins out.new.items out.old.items) }
 {
     let Some((first, others)) = name.sides().split_first() else {
         return out.extend_from_slice(b"-");
@@ -93,8 +94,7 @@ fn append_name(out: &mut Vec<u8>, name: &Name) -> Result<(), AllocError>
     let mut buffer = Buffer::new();
     out.extend_from_slice(buffer.format(*first).as_bytes())?;
     for side in others {
-        out.push(b'.')?;
-        out.extend_from_slice(buffer.format(*side).as_bytes())?;
+        append_number(out, b'.', *side)?;
     }
     Ok(())
 }
