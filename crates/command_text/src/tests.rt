@@ -32,8 +32,25 @@ fn lines_of_each_form_are_read(rt: HostRuntime) -> Result<(), Fail> {
 fn lines_in_no_form_are_bad(rt: HostRuntime) -> Result<(), Fail> {
     let alloc = rt.alloc();
     for line in [
-        "", "hop", "new", "new ", "new 64", "new  1", "new 1 ", "new 0000000001", "new +1", "New 1",
-        "go 0", "go 0 lx", "go 0  L", "go 0 ", "at 0 1", "at x", "same 0", "same 0 1 2", "same 0 64",
+        "",
+        "hop",
+        "new",
+        "new ",
+        "new 64",
+        "new  1",
+        "new 1 ",
+        "new 0000000001",
+        "new +1",
+        "New 1",
+        "go 0",
+        "go 0 lx",
+        "go 0  L",
+        "go 0 ",
+        "at 0 1",
+        "at x",
+        "same 0",
+        "same 0 1 2",
+        "same 0 64",
     ] {
         let fault = read_line(alloc, line.as_bytes()).err();
         assert_eq!(rt; fault, Some(LineFault::Bad), "{line}");
@@ -45,7 +62,7 @@ fn lines_in_no_form_are_bad(rt: HostRuntime) -> Result<(), Fail> {
 fn lines_of_over_8192_bytes_are_too_long(rt: HostRuntime) -> Result<(), Fail> {
     let alloc = rt.alloc();
     let mut line = Vec::from_slice(alloc, b"go 0 ")?;
-    while line.len() < LONGEST_LINE {
+    for _ in line.len()..LONGEST_LINE {
         line.push(b'Y')?;
     }
     assert_eq!(rt; read_line(alloc, &line).err(), Some(LineFault::Bad));
@@ -61,8 +78,22 @@ fn replies_are_lines(rt: HostRuntime) -> Result<(), Fail> {
     let root = read_name(alloc, b"-")?;
     for (reply, want) in [
         (Reply::Done, "ok\n"),
-        (Reply::At { name, spin: 4, kind: 10 }, "at 0.14 4 10\n"),
-        (Reply::At { name: root, spin: 0, kind: 0 }, "at - 0 0\n"),
+        (
+            Reply::At {
+                name,
+                spin: 4,
+                kind: 10,
+            },
+            "at 0.14 4 10\n",
+        ),
+        (
+            Reply::At {
+                name: root,
+                spin: 0,
+                kind: 0,
+            },
+            "at - 0 0\n",
+        ),
         (Reply::Yes, "yes\n"),
         (Reply::No, "no\n"),
         (Reply::NoWalker, "no walker\n"),

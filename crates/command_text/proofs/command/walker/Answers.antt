@@ -16,6 +16,7 @@ loop-byte-preserved c =
     let is_digit = subst (λ (byte : ℕ). digit_value byte < 10) c.from.ensures c.in-Some.ensures.value.0 in
     let digit = c.in-Some.ensures.value.1 ∙ ap digit_value c.from.ensures in
     let value = clamped (digits_value 10 (take c.loop-byte.byte-index c.args.word.now)) c.loop-byte.value c.in-Some.digit c.saturating_mul.result c.saturating_add-value.result c.loop-byte.invariant.1 c.saturating_mul.ensures c.saturating_add-value.ensures in
-    let more = digits_value_more 10 c.args.word.now c.loop-byte.byte-index inside in
-    (digits_more 10 c.args.word.now c.loop-byte.byte-index inside c.loop-byte.invariant.0 is_digit,
-     rw (more, ← digit) value)
+    let more = digits_value_more 10 c.args.word.now c.loop-byte.byte-index inside in (
+      digits_more 10 c.args.word.now c.loop-byte.byte-index inside c.loop-byte.invariant.0 is_digit,
+      rw (more, ← digit) value,
+    )
