@@ -1,0 +1,32 @@
+-- The lines of replies.
+use Rattle.std.specs.Prelude.{◌≡◌, ℕ, List, [], ◌∷◌, ◌++◌, length, take, codes, decimal}
+use Rattle.reply_model.specs.declared.Reply.{Reply}
+use Rattle.reply_model.specs.declared.Reply.TheVariants.{Done, At, Yes, No, NoWalker, Taken, Deep}
+use Rattle.cell_names.specs.Text.{name_text}
+use Rattle.command_text.specs.Lines.{spaced}
+
+-- what ends a line
+abbrev pub line_feed : List ℕ
+line_feed = 10 ∷ []
+
+-- `at NAME SPIN KIND`
+abbrev pub place_words : List ℕ → ℕ → ℕ → List ℕ
+place_words name spin kind = spaced (codes "at" ∷ name_text name ∷ decimal spin ∷ decimal kind ∷ [])
+
+-- the words of a reply
+abbrev pub reply_words : Reply → List ℕ
+reply_words Done = codes "ok"
+reply_words (At name spin kind) = place_words name spin kind
+reply_words Yes = codes "yes"
+reply_words No = codes "no"
+reply_words NoWalker = codes "no walker"
+reply_words Taken = codes "taken"
+reply_words Deep = codes "deep"
+
+-- the line of a reply, with its line feed
+abbrev pub reply_text : Reply → List ℕ
+reply_text x = reply_words x ++ line_feed
+
+-- the bytes begin with these
+abbrev pub Begins : List ℕ → List ℕ → Type 0
+Begins bytes front = take (length front) bytes ≡ front

@@ -1,0 +1,11 @@
+//! The lines of the command stream: commands read from them, and replies printed as lines.
+#![tactic(auto)]
+
+mod command;
+mod reply;
+#[cfg(test)]
+mod tests;
+
+pub use command::{LONGEST_LINE, LineFault, read_line};
+pub use reply::{bad_line, print_reply, too_long_line, write_reply};
+pub use reply_model::{Command, Reply};

@@ -1,0 +1,100 @@
+//! The lines of replies, printed.
+ghost use Rattle.std.specs.Prelude.{◌≡◌, ℕ, List, [], ◌∷◌, ◌++◌, codes, decimal, IfOk, OnOk, OnErr};
+ghost use Rattle.cell_names.specs.Text.{name_text};
+ghost use Rattle.command_text.specs.Replies.{Begins, line_feed, place_words, reply_text};
+
+use cell_names::Name;
+use itoa::Buffer;
+use reply_model::Reply;
+use std::alloc::{AllocError, Global};
+
+/// The line that answers a line of over 8,192 bytes, with its line feed.
+pub fn too_long_line() -> &'static [u8]
+    ensures { result.now ≡ codes "too long" ++ line_feed }
+{
+    b"too long\n"
+}
+
+/// The line that answers a line in no form, with its line feed.
+pub fn bad_line() -> &'static [u8]
+    ensures { result.now ≡ codes "bad" ++ line_feed }
+{
+    b"bad\n"
+}
+
+/// The line of a reply, with its line feed.
+pub fn print_reply(alloc: Global, x: &Reply) -> Result<Vec<u8>, AllocError>
+    ensures { IfOk result (λ text. text.items ≡ reply_text x.now) }
+{
+    let mut text = Vec::new(alloc);
+    write_reply(&mut text, x)?;
+    Ok(text)
+}
+
+/// Appends the line of a reply, with its line feed. Out of memory the bytes are as they were.
+pub fn write_reply(out: &mut Vec<u8>, x: &Reply) -> Result<(), AllocError>
+    ensures written { OnOk result (out.new.items ≡ out.old.items ++ reply_text x.now) }
+    ensures unchanged { OnErr result (out.new.items ≡ out.old.items) }
+{
+    match x {
+        Reply::Done => out.extend_from_slice(b"ok\n"),
+        Reply::At { name, spin, kind } => write_place(out, name, *spin, *kind),
+        Reply::Yes => out.extend_from_slice(b"yes\n"),
+        Reply::No => out.extend_from_slice(b"no\n"),
+        Reply::NoWalker => out.extend_from_slice(b"no walker\n"),
+        Reply::Taken => out.extend_from_slice(b"taken\n"),
+        Reply::Deep => out.extend_from_slice(b"deep\n"),
+    }
+}
+
+/// Appends the line of a place, or leaves the bytes as they were.
+fn write_place(out: &mut Vec<u8>, name: &Name, spin: u8, kind: u8) -> Result<(), AllocError>
+    ensures written { OnOk result (out.new.items ≡ out.old.items ++ place_words name.now spin kind ++ line_feed) }
+    ensures unchanged { OnErr result (out.new.items ≡ out.old.items) }
+{
+    let start = out.len();
+    let written = append_place(out, name, spin, kind);
+    if written.is_err() {
+        out.truncate(start);
+    }
+    written
+}
+
+/// Appends the line of a place, or some bytes.
+fn append_place(out: &mut Vec<u8>, name: &Name, spin: u8, kind: u8) -> Result<(), AllocError>
+    ensures written { OnOk result (out.new.items ≡ out.old.items ++ place_words name.now spin kind ++ line_feed) }
+    ensures kept { OnErr result (Begins out.new.items out.old.items) }
+{
+    out.extend_from_slice(b"at ")?;
+    append_name(out, name)?;
+    append_number(out, b' ', spin)?;
+    append_number(out, b' ', kind)?;
+    out.push(b'\n')?;
+    Ok(())
+}
+
+/// Appends a byte and a number, or some bytes.
+fn append_number(out: &mut Vec<u8>, separator: u8, number: u8) -> Result<(), AllocError>
+    ensures written { OnOk result (out.new.items ≡ out.old.items ++ separator ∷ decimal number) }
+    ensures kept { OnErr result (Begins out.new.items out.old.items) }
+{
+    let mut buffer = Buffer::new();
+    out.push(separator)?;
+    out.extend_from_slice(buffer.format(number).as_bytes())
+}
+
+/// Appends the text of a name, or some bytes.
+fn append_name(out: &mut Vec<u8>, name: &Name) -> Result<(), AllocError>
+    ensures written { OnOk result (out.new.items ≡ out.old.items ++ name_text name.now) }
+    ensures kept { OnErr result (Begins out.new.items out.old.items) }
+{
+    let Some((first, others)) = name.sides().split_first() else {
+        return out.extend_from_slice(b"-");
+    };
+    let mut buffer = Buffer::new();
+    out.extend_from_slice(buffer.format(*first).as_bytes())?;
+    for side in others {
+        append_number(out, b'.', *side)?;
+    }
+    Ok(())
+}

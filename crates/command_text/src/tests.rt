@@ -1,0 +1,109 @@
+// Lines read and printed, compared with values from outside.
+use crate::{
+    Command, LONGEST_LINE, LineFault, Reply, bad_line, print_reply, read_line, too_long_line,
+};
+use cell_names::read_name;
+use std::test::Fail;
+
+#[test]
+fn lines_of_each_form_are_read(rt: HostRuntime) -> Result<(), Fail> {
+    let alloc = rt.alloc();
+    for (line, want) in [
+        ("new 0", Some((0, 0, 0))),
+        ("new 000000063", Some((0, 63, 0))),
+        ("go 7 LXR", Some((1, 7, 3))),
+        ("go 07 -", Some((1, 7, 0))),
+        ("at 12", Some((2, 12, 0))),
+        ("same 3 40", Some((3, 3, 40))),
+    ] {
+        let read = match read_line(alloc, line.as_bytes()) {
+            Ok(Command::New(w)) => Some((0, w, 0)),
+            Ok(Command::Go(w, walk)) => Some((1, w, walk.len())),
+            Ok(Command::At(w)) => Some((2, w, 0)),
+            Ok(Command::Same(w, v)) => Some((3, w, usize::from(v))),
+            Err(_) => None,
+        };
+        assert_eq!(rt; read, want, "{line}");
+    }
+    Ok(())
+}
+
+#[test]
+fn lines_in_no_form_are_bad(rt: HostRuntime) -> Result<(), Fail> {
+    let alloc = rt.alloc();
+    for line in [
+        "",
+        "hop",
+        "new",
+        "new ",
+        "new 64",
+        "new  1",
+        "new 1 ",
+        "new 0000000001",
+        "new +1",
+        "New 1",
+        "go 0",
+        "go 0 lx",
+        "go 0  L",
+        "go 0 ",
+        "at 0 1",
+        "at x",
+        "same 0",
+        "same 0 1 2",
+        "same 0 64",
+    ] {
+        let fault = read_line(alloc, line.as_bytes()).err();
+        assert_eq!(rt; fault, Some(LineFault::Bad), "{line}");
+    }
+    Ok(())
+}
+
+#[test]
+fn lines_of_over_8192_bytes_are_too_long(rt: HostRuntime) -> Result<(), Fail> {
+    let alloc = rt.alloc();
+    let mut line = Vec::from_slice(alloc, b"go 0 ")?;
+    for _ in line.len()..LONGEST_LINE {
+        line.push(b'Y')?;
+    }
+    assert_eq!(rt; read_line(alloc, &line).err(), Some(LineFault::Bad));
+    line.push(b'Y')?;
+    assert_eq!(rt; read_line(alloc, &line).err(), Some(LineFault::TooLong));
+    Ok(())
+}
+
+#[test]
+fn replies_are_lines(rt: HostRuntime) -> Result<(), Fail> {
+    let alloc = rt.alloc();
+    let name = read_name(alloc, b"0.14")?;
+    let root = read_name(alloc, b"-")?;
+    for (reply, want) in [
+        (Reply::Done, "ok\n"),
+        (
+            Reply::At {
+                name,
+                spin: 4,
+                kind: 10,
+            },
+            "at 0.14 4 10\n",
+        ),
+        (
+            Reply::At {
+                name: root,
+                spin: 0,
+                kind: 0,
+            },
+            "at - 0 0\n",
+        ),
+        (Reply::Yes, "yes\n"),
+        (Reply::No, "no\n"),
+        (Reply::NoWalker, "no walker\n"),
+        (Reply::Taken, "taken\n"),
+        (Reply::Deep, "deep\n"),
+    ] {
+        let text = print_reply(alloc, &reply)?;
+        assert_eq!(rt; text.as_slice(), want.as_bytes());
+    }
+    assert_eq!(rt; too_long_line(), b"too long\n".as_slice());
+    assert_eq!(rt; bad_line(), b"bad\n".as_slice());
+    Ok(())
+}
