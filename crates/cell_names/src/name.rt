@@ -1,5 +1,5 @@
 //! `Name`: the list of child sides on the way from the root of the tree to a tile.
-ghost use Rattle.std.specs.Prelude.{◌≡◌, ◌<◌, ◌↔◌, [], ◌∷◌, ◌++◌, length, nat_eq, refl, Some, IsTrue, IsNone, IfSome, IfNone, IfOk, OnOk, OnErr, slice_set};
+ghost use Rattle.std.specs.Prelude.{◌≡◌, ◌<◌, ◌≤◌, ◌↔◌, [], ◌∷◌, ◌++◌, length, take, nat_eq, refl, Some, IsTrue, IsNone, IfSome, IfNone, IfOk, OnOk, OnErr, slice_set};
 ghost use Rattle.std.specs.Cmp.{partial_equiv_from_equiv};
 ghost use Rattle.std.specs.Cmp.Lexicographic.{pointwise, slice_cmp, nat_list_eq_equiv, nat_list_cmp_total, texts_ties, texts_po};
 ghost use Rattle.std.specs.Hash as fed;
@@ -93,6 +93,19 @@ impl Name {
         ensures { self.new ≡ slice_set self.old at side }
     {
         self.sides.as_mut_slice()[at] = side;
+    }
+
+    /// Keeps the first `kept` sides, at most `len` of them, and puts other sides behind them, each from 0 to 63. Out of memory the name is
+    /// as it was.
+    pub fn rejoin(&mut self, kept: usize, sides: &[u8]) -> Result<(), AllocError>
+        requires kept { kept ≤ length self.old }
+        requires below { IsName sides.now }
+        ensures ok { OnOk result (self.new ≡ take kept self.old ++ sides.now) }
+        ensures err { OnErr result (self.new ≡ self.old) }
+    {
+        self.sides.reserve(sides.len())?;
+        self.sides.truncate(kept);
+        self.sides.extend_from_slice(sides)
     }
 
     /// An equal name.

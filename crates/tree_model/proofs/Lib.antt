@@ -1,1 +1,3 @@
--- Lemmas on names, positions and tables that several crates share.
+pub mod Sides
+pub mod Names
+pub mod Positions

@@ -1,0 +1,5 @@
+pub mod Plane
+pub mod Machine
+pub mod Directions
+pub mod Laws
+pub mod Spots
