@@ -12,5 +12,5 @@ pub fn interleaving(r: &Rules, kind: u8)
     ensures one_reply { RepliesAreOne r.now.kinds r.now.automaton kind }
     ensures interleavings { InterleavingsAgree r.now.kinds r.now.automaton kind }
 {
-    let _ = (r.automaton(), kind);
+    let _ = r.automaton();
 }

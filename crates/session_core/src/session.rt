@@ -1,5 +1,5 @@
 //! `Session`: up to 64 walkers in the tree of one kind, and what they answer to commands.
-ghost use Rattle.std.specs.Prelude.{◌≡◌, ◌<◌, ◌↔◌, List, [], ◌∷◌, ◌++◌, length, IfOk, OnErr};
+ghost use Rattle.std.specs.Prelude.{◌≡◌, ◌<◌, ◌↔◌, List, [], ◌∷◌, ◌++◌, length, None, Some, MatchOption, IfOk, OnErr};
 ghost use Rattle.reply_model.specs.declared.Command.{Command};
 ghost use Rattle.reply_model.specs.declared.Reply.{Reply};
 ghost use Rattle.session_core.specs.Sessions.{SessionState, StandsFor, IsDue, HasNumbers, walker_at};
@@ -79,13 +79,21 @@ impl<'r> Session<'r> {
         }
     }
 
+    /// The spot of walker `w`, if there is this walker.
+    fn spot(&self, w: u8) -> Option<&Spot>
+        requires { w < 64 }
+        ensures { MatchOption result (walker_at self.now w ≡ None) (λ s. walker_at self.now w ≡ Some s.now) }
+    {
+        self.walkers[w as usize].as_ref()
+    }
+
     /// Makes walker `w`, at the root.
     fn new_walker(&mut self, w: u8) -> Result<Reply, AllocError>
         requires { w < 64 }
         ensures does { IfOk result (λ x. Does self.old (Command.New w) x self.new) }
         ensures unchanged { OnErr result (self.new ≡ self.old) }
     {
-        if self.walkers[w as usize].is_some() {
+        if self.spot(w).is_some() {
             return Ok(Reply::Taken);
         }
         let spot = root_spot(*self.walkers.allocator(), self.rules, self.kind)?;
@@ -118,7 +126,7 @@ impl<'r> Session<'r> {
         requires { w < 64 }
         ensures { IfOk result (λ x. Does self.now (Command.At w) x self.now) }
     {
-        let Some(spot) = &self.walkers[w as usize] else {
+        let Some(spot) = self.spot(w) else {
             return Ok(Reply::NoWalker);
         };
         Ok(Reply::At {
@@ -134,8 +142,7 @@ impl<'r> Session<'r> {
         requires second { v < 64 }
         ensures { Does self.now (Command.Same w v) result self.now }
     {
-        let (Some(first), Some(second)) = (&self.walkers[w as usize], &self.walkers[v as usize])
-        else {
+        let (Some(first), Some(second)) = (self.spot(w), self.spot(v)) else {
             return Reply::NoWalker;
         };
         if first.name() == second.name() {
