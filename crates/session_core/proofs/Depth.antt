@@ -16,7 +16,7 @@ use Rattle.reply_model.specs.Readings.{deepest, LeadsDeep}
 use Rattle.reply_model.specs.Replies.{GoesDeep}
 use Rattle.reply_model.specs.Histories.{walk_of}
 use Rattle.session_core.specs.Sessions.{SessionState, IsWalker}
-use Rattle.session_core.specs.Steps.{HasGone}
+use Rattle.session_core.proofs.Steps.{HasGone}
 use Rattle.session_core.proofs.Events.{Event}
 
 module _ (kinds : List TileKind) (a : TreeAutomaton) (k : ℕ) where

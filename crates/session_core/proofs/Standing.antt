@@ -16,9 +16,9 @@ use Rattle.reply_model.specs.declared.Reply.TheVariants.{Done, At as AtPlace, Ye
 use Rattle.reply_model.specs.Histories.{Exists, letters_for, walk_of}
 use Rattle.reply_model.specs.Replies.{new_taken, new_made, go_nobody, go_deep, go_gone, at_nobody, at_place, same_nobody, same_tile, other_tile}
 use Rattle.reply_model.specs.Readings.{LeadsTo, LeadToOneName}
-use Rattle.session_core.specs.Sessions.{SessionState, walker_at, IsWalker, IsSession, HasNumbers, IsDue, StandsFor}
-use Rattle.session_core.specs.Steps as steps
-use Rattle.session_core.specs.Steps.{Does, HasGone, with_walker}
+use Rattle.session_core.specs.Sessions.{SessionState, walker_at, IsWalker, IsSession, HasNumbers, IsDue, StandsFor, HasAnswered}
+use Rattle.session_core.proofs.Steps as steps
+use Rattle.session_core.proofs.Steps.{Does, HasGone, with_walker}
 use Rattle.session_core.proofs.Events.{Event, walk_push, walk_stays, exists_push, exists_made, exists_before}
 use Rattle.session_core.proofs.Answering.{unborn, due_push}
 use Rattle.session_core.proofs.Depth.{goes_deep, deep_goes}
@@ -126,7 +126,7 @@ module _ (s : SessionState) (sound : AreSound s.rules) (is : IsSession s) (h : L
 
   -- the reply is due
   pub does_due : {c : Command} {x : Reply} {t : SessionState} → HasNumbers c → Does s c x t → IsDue s h c x
-  does_due lt (steps.taken w p e) = new_taken w (there w p lt e)
+  does_due lt (steps.taken w e) = new_taken w ((stands.walkers w lt).0 e)
   does_due lt (steps.made w p e at) = new_made w (nobody w lt e)
   does_due lt (steps.go_nobody w u e) = go_nobody w u (nobody w lt e)
   does_due lt (steps.stopped w u p e d) = go_deep w u (there w p lt e) (goes_deep s.rules s.kind p (is.spots w p e) h w u (stands.spots w p e) d)
@@ -139,7 +139,7 @@ module _ (s : SessionState) (sound : AreSound s.rules) (is : IsSession s) (h : L
 
   -- and the session stands for what has come
   pub does_stand : {c : Command} {x : Reply} {t : SessionState} → HasNumbers c → Does s c x t → StandsFor t (h ++ (c, x) ∷ [])
-  does_stand lt (steps.taken w p e) = idle (New w) Taken (does_due lt (steps.taken w p e)) (λ v. refl) (λ v f. taken_is_not_done (ap (λ (e : Event). e.1) f))
+  does_stand lt (steps.taken w e) = idle (New w) Taken (does_due lt (steps.taken w e)) (λ v. refl) (λ v f. taken_is_not_done (ap (λ (e : Event). e.1) f))
   does_stand lt (steps.made w p e at) = put (New w) Done w p lt (does_due lt (steps.made w p e at)) (exists_made h w) (new_led w p lt e at.stands) (λ v n. refl) (λ v n f. n (the_number (ap (λ (e : Event). e.0) f)))
   does_stand lt (steps.go_nobody w u e) = idle (Go w u) NoWalker (does_due lt (steps.go_nobody w u e)) (λ v. refl) (λ v f. go_is_not_new w v u (ap (λ (e : Event). e.0) f))
   does_stand lt (steps.stopped w u p e d) = idle (Go w u) Deep (does_due lt (steps.stopped w u p e d)) (λ v. refl) (λ v f. go_is_not_new w v u (ap (λ (e : Event). e.0) f))
@@ -163,3 +163,23 @@ put_session s w q below is walker = record {
         let same : walker_at (with_walker s w q) w ≡ Some q = get_or-set_same s.walkers w (Some q) None (subst (λ n. w < n) (sym is.places) below) in
         let g : Some q ≡ Some p = sym same ∙ subst (λ v. walker_at (with_walker s w q) v ≡ Some p) (sym e) f in
         subst (IsWalker s.rules s.kind) (the_spot g) walker
+
+does_keep : {s t : SessionState} {c : Command} {x : Reply} → Does s c x t → (t.rules ≡ s.rules) × (t.kind ≡ s.kind)
+does_keep (steps.taken w e) = (refl, refl)
+does_keep (steps.made w p e at) = (refl, refl)
+does_keep (steps.go_nobody w u e) = (refl, refl)
+does_keep (steps.stopped w u p e d) = (refl, refl)
+does_keep (steps.gone w u p q e g) = (refl, refl)
+does_keep (steps.at_nobody w e) = (refl, refl)
+does_keep (steps.at_spot w p e) = (refl, refl)
+does_keep (steps.same_nobody w v e) = (refl, refl)
+does_keep (steps.one_tile w v p q e f n) = (refl, refl)
+does_keep (steps.two_tiles w v p q e f n) = (refl, refl)
+
+pub answered : (s : SessionState) (c : Command) (x : Reply) (t : SessionState) → AreSound s.rules → IsSession s → HasNumbers c → Does s c x t → HasAnswered s c x t
+answered s c x t sound is lt d = record {
+  due = λ h stands. does_due s sound is h stands lt d;
+  stands = λ h stands. does_stand s sound is h stands lt d;
+  rules = (does_keep d).0;
+  kind = (does_keep d).1;
+}

@@ -1,9 +1,8 @@
 //! `Session`: up to 64 walkers in the tree of one kind, and what they answer to commands.
-ghost use Rattle.std.specs.Prelude.{◌≡◌, ◌<◌, ◌↔◌, List, [], ◌∷◌, ◌++◌, length, None, Some, MatchOption, IfOk, OnErr};
+ghost use Rattle.std.specs.Prelude.{◌≡◌, ◌<◌, ◌↔◌, List, [], ◌∷◌, ◌++◌, length, replicate, None, Some, MatchOption, IfOk, OnErr, IsTrue};
 ghost use Rattle.reply_model.specs.declared.Command.{Command};
 ghost use Rattle.reply_model.specs.declared.Reply.{Reply};
-ghost use Rattle.session_core.specs.Sessions.{SessionState, StandsFor, IsDue, HasNumbers, walker_at};
-ghost use Rattle.session_core.specs.Steps.{Does};
+ghost use Rattle.session_core.specs.Sessions.{SessionState, StandsFor, IsDue, HasNumbers, HasAnswered, walker_at};
 
 use reply_model::{Command, Reply};
 use std::alloc::{AllocError, Global};
@@ -44,14 +43,10 @@ impl<'r> Session<'r> {
         ensures rules { IfOk result (λ s. s.rules ≡ rules.now) }
         ensures kind { IfOk result (λ s. s.kind ≡ kind) }
     {
-        let mut walkers = Vec::with_capacity(alloc, WALKERS)?;
-        for _place in 0..WALKERS {
-            walkers.push(None)?;
-        }
         Ok(Session {
             rules,
             kind,
-            walkers,
+            walkers: no_walkers(alloc)?,
             spare: root_spot(alloc, rules, kind)?,
         })
     }
@@ -90,9 +85,10 @@ impl<'r> Session<'r> {
     /// Makes walker `w`, at the root.
     fn new_walker(&mut self, w: u8) -> Result<Reply, AllocError>
         requires { w < 64 }
-        ensures does { IfOk result (λ x. Does self.old (Command.New w) x self.new) }
+        ensures answered { IfOk result (λ x. HasAnswered self.old (Command.New w) x self.new) }
         ensures unchanged { OnErr result (self.new ≡ self.old) }
     {
+        let _ = self.rules.automaton();
         if self.spot(w).is_some() {
             return Ok(Reply::Taken);
         }
@@ -104,9 +100,10 @@ impl<'r> Session<'r> {
     /// Walker `w` goes along a walk. It goes on the spare spot, which becomes its own where no crossing lies too deep.
     fn go(&mut self, w: u8, path: &Walk) -> Result<Reply, AllocError>
         requires { w < 64 }
-        ensures does { IfOk result (λ x. Does self.old (Command.Go w path.now) x self.new) }
+        ensures answered { IfOk result (λ x. HasAnswered self.old (Command.Go w path.now) x self.new) }
         ensures unchanged { OnErr result (self.new ≡ self.old) }
     {
+        let _ = self.rules.automaton();
         let Some(spot) = &mut self.walkers[w as usize] else {
             return Ok(Reply::NoWalker);
         };
@@ -124,8 +121,9 @@ impl<'r> Session<'r> {
     /// Where walker `w` stands.
     fn at(&self, w: u8) -> Result<Reply, AllocError>
         requires { w < 64 }
-        ensures { IfOk result (λ x. Does self.now (Command.At w) x self.now) }
+        ensures { IfOk result (λ x. HasAnswered self.now (Command.At w) x self.now) }
     {
+        let _ = self.rules.automaton();
         let Some(spot) = self.spot(w) else {
             return Ok(Reply::NoWalker);
         };
@@ -140,15 +138,37 @@ impl<'r> Session<'r> {
     fn same(&self, w: u8, v: u8) -> Reply
         requires first { w < 64 }
         requires second { v < 64 }
-        ensures { Does self.now (Command.Same w v) result self.now }
+        ensures { HasAnswered self.now (Command.Same w v) result self.now }
     {
-        let (Some(first), Some(second)) = (self.spot(w), self.spot(v)) else {
+        let _ = self.rules.automaton();
+        let Some(first) = self.spot(w) else {
             return Reply::NoWalker;
         };
-        if first.name() == second.name() {
+        let Some(second) = self.spot(v) else {
+            return Reply::NoWalker;
+        };
+        if are_together(first, second) {
             Reply::Yes
         } else {
             Reply::No
         }
     }
+}
+
+/// As many places as there can be walkers, all of them empty.
+fn no_walkers(alloc: Global) -> Result<Vec<Option<Spot>>, AllocError>
+    ensures { IfOk result (λ v. v.items ≡ replicate 64 None) }
+{
+    let mut walkers = Vec::with_capacity(alloc, WALKERS)?;
+    for _place in 0..WALKERS {
+        walkers.push(None)?;
+    }
+    Ok(walkers)
+}
+
+/// Whether two spots stand at tiles of one name.
+fn are_together(first: &Spot, second: &Spot) -> bool
+    ensures { IsTrue result ↔ (first.now.name ≡ second.now.name) }
+{
+    first.name() == second.name()
 }

@@ -1,10 +1,20 @@
+use Rattle.session_core.proofs.Going.{answered_due, answered_stands}
 use Rattle.session_core.proofs.session.Session.apply.Goals as goal
 
 pub returns-in-New-clause-due : goal.returns-in-New-clause-due
-returns-in-New-clause-due c = ?
+returns-in-New-clause-due c = answered_due _ _ _ _ _ c.in-New.is c.new_walker.ensures.answered
 
 pub returns-in-New-clause-stands : goal.returns-in-New-clause-stands
-returns-in-New-clause-stands c = ?
+returns-in-New-clause-stands c = answered_stands _ _ _ _ _ c.in-New.is c.new_walker.ensures.answered
+
+pub returns-in-Go-clause-due : goal.returns-in-Go-clause-due
+returns-in-Go-clause-due c = answered_due _ _ _ _ _ c.in-Go.is c.go.ensures.answered
+
+pub returns-in-Go-clause-stands : goal.returns-in-Go-clause-stands
+returns-in-Go-clause-stands c = answered_stands _ _ _ _ _ c.in-Go.is c.go.ensures.answered
+
+pub returns-in-At-clause-due : goal.returns-in-At-clause-due
+returns-in-At-clause-due c = answered_due _ _ _ _ _ c.in-At.is c.at.ensures
 
 pub returns-in-At-clause-stands : goal.returns-in-At-clause-stands
-returns-in-At-clause-stands c = ?
+returns-in-At-clause-stands c = answered_stands _ _ _ _ _ c.in-At.is c.at.ensures

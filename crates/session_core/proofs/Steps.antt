@@ -1,5 +1,5 @@
 -- What a command does to the spots of a session, and what the session answers.
-use Rattle.std.specs.Prelude.{◌≡◌, ◌≢◌, ℕ, ◌⊎◌, List, slice_set, Option, None, Some}
+use Rattle.std.specs.Prelude.{◌≡◌, ◌≢◌, ℕ, ◌⊎◌, List, slice_set, Option, None, Some, IsSome}
 use Rattle.tile_model.specs.declared.Letter.{Letter}
 use Rattle.tree_model.specs.Automata.{state_at}
 use Rattle.tree_model.specs.Positions.{Position, root}
@@ -24,7 +24,7 @@ pub record HasGone (session : SessionState) (s t : TreeSpot) (walk : List Letter
 
 -- The command has the reply, and makes the second session of the first.
 pub data Does (session : SessionState) : Command → Reply → SessionState → Type 0 where
-  taken : (w : ℕ) (s : TreeSpot) → walker_at session w ≡ Some s → Does session (New w) Taken session
+  taken : (w : ℕ) → IsSome (walker_at session w) → Does session (New w) Taken session
   made : (w : ℕ) (s : TreeSpot) → walker_at session w ≡ None → IsAt session.rules session.kind root s → Does session (New w) Done (with_walker session w s)
   go_nobody : (w : ℕ) (walk : List Letter) → walker_at session w ≡ None → Does session (Go w walk) NoWalker session
   stopped : (w : ℕ) (walk : List Letter) (s : TreeSpot) → walker_at session w ≡ Some s → WalksDeep session.rules s walk deepest → Does session (Go w walk) Deep session

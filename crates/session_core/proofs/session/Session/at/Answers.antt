@@ -1,0 +1,17 @@
+use Rattle.std.proofs.Common.{◌≡◌, sym, ap, ap₂, subst, ◌∙◌}
+use Rattle.structure_check.specs.Rules.{AreSound}
+use Rattle.reply_model.specs.declared.Command.TheVariants.{At}
+use Rattle.reply_model.specs.declared.Reply.TheVariants.{NoWalker}
+use Rattle.session_core.specs.Sessions.{SessionState, IsSession, walker_at, HasAnswered}
+use Rattle.session_core.proofs.Steps.{at_nobody, at_spot}
+use Rattle.session_core.proofs.Standing.{answered}
+use Rattle.session_core.proofs.Going.{none_at, some_at}
+use Rattle.session_core.proofs.session.Session.at.Goals as goal
+
+pub returns-in_default : goal.returns-in_default
+returns-in_default c =
+    let sound = subst (λ (s : SessionState). AreSound s.rules) c.self.view_is c.automaton.ensures.sound in
+    answered c.args.self.now (At c.args.w) NoWalker c.args.self.now sound (subst IsSession c.self.view_is c.self.invariant) c.requires (at_nobody c.args.w (none_at (λ s. s.now) c.spot.result (walker_at c.args.self.now c.args.w) c.spot.ensures c.in_default.is))
+
+pub returns : goal.returns
+returns c = ?
