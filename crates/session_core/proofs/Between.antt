@@ -119,7 +119,7 @@ module _ (kinds : List TileKind) (a : TreeAutomaton) (k : ℕ) where
       let same : pruned (before ++ e ∷ []) ++ pruned rest ≡ pruned before ++ (kept e.0 e.1 ++ pruned rest) = ap (λ l. l ++ pruned rest) (pruned_push before e) ∙ append_assoc (pruned before) (kept e.0 e.1) (pruned rest) in
       subst (AreDue kinds a k) same all
 
-  none_due : AreDue kinds a k []
+  pub none_due : AreDue kinds a k []
   none_due before rest c x e = absurd (nothing before rest (c, x) e)
     where
       nothing : (l rest : List Event) (f : Event) → [] ≡ l ++ f ∷ rest → ⊥

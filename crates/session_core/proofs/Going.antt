@@ -4,31 +4,26 @@ use Rattle.std.specs.Prelude.{Option, None, Some, is_some, IsSome, MatchOption, 
 use Rattle.std.proofs.lemmas.Bool.{false≢true}
 use Rattle.std.proofs.lemmas.List.{get_or_default, set-get_or, length-replicate}
 use Rattle.tile_model.specs.declared.Letter.{Letter}
+use Rattle.tree_model.specs.Automata.{state_at}
 use Rattle.tree_model.specs.Positions.{root}
 use Rattle.structure_check.specs.Rules.{TreeRules, AreSound}
-use Rattle.turn_rules.specs.Spots.{TreeSpot, IsSpot, IsAt, position, root_kind}
+use Rattle.turn_rules.specs.Spots.{TreeSpot, IsSpot, IsAt, position, root_kind, tile_state}
 use Rattle.step_engine.specs.Crossings.{WalksDeep, LeadsTo}
 use Rattle.step_engine.specs.declared.fault.StepFault.{StepFault}
 use Rattle.step_engine.specs.declared.fault.StepFault.TheVariants.{Deep as TooDeep, Memory}
 use Rattle.reply_model.specs.declared.Command.{Command}
 use Rattle.reply_model.specs.declared.Command.TheVariants.{New, Go, At, Same}
 use Rattle.reply_model.specs.declared.Reply.{Reply}
-use Rattle.reply_model.specs.declared.Reply.TheVariants.{Done, NoWalker, Deep}
+use Rattle.reply_model.specs.declared.Reply.TheVariants.{Done, At as AtPlace, NoWalker, Deep}
 use Rattle.reply_model.specs.Histories.{Exists}
 use Rattle.reply_model.specs.Readings.{deepest}
 use Rattle.session_core.specs.Sessions.{SessionState, walker_at, IsWalker, IsSession, StandsFor, IsDue, HasAnswered}
-use Rattle.session_core.proofs.Steps.{Does, HasGone, with_walker, made, go_nobody, stopped, gone}
+use Rattle.session_core.proofs.Steps.{Does, HasGone, with_walker, made, go_nobody, stopped, gone, at_spot}
 use Rattle.session_core.proofs.Between.{none_due}
 use Rattle.session_core.proofs.Depth.{has_gone}
 use Rattle.session_core.proofs.Standing.{answered, put_session}
 
 -- a look-up that gives a reference
-pub none_at : {T : Type 0} (f : T → TreeSpot) (o : Option T) (r : Option TreeSpot) → MatchOption o (r ≡ None) (λ s. r ≡ Some (f s)) → o ≡ None → r ≡ None
-none_at f o r m e = subst (λ o. MatchOption o (r ≡ None) (λ s. r ≡ Some (f s))) e m
-
-pub some_at : {T : Type 0} (f : T → TreeSpot) (o : Option T) (r : Option TreeSpot) (s : T) → MatchOption o (r ≡ None) (λ s. r ≡ Some (f s)) → o ≡ Some s → r ≡ Some (f s)
-some_at f o r s m e = subst (λ o. MatchOption o (r ≡ None) (λ s. r ≡ Some (f s))) e m
-
 pub some_there : {T : Type 0} (f : T → TreeSpot) (o : Option T) (r : Option TreeSpot) → MatchOption o (r ≡ None) (λ s. r ≡ Some (f s)) → is_some o ≡ true → IsSome r
 some_there f None r m e = absurd (false≢true e)
 some_there f (Some s) r m e = ap is_some m
@@ -85,6 +80,13 @@ module _ (s : SessionState) (sound : AreSound s.rules) (is : IsSession s) (w : �
   pub moved_session : (u : List Letter) (p copy t : TreeSpot) → walker_at s w ≡ Some p → copy ≡ p → IsSpot s.rules t → root_kind s.rules t ≡ root_kind s.rules copy → LeadsTo s.rules copy u (position t) → (WalksDeep s.rules copy u deepest → ⊥) → IsSession (with_walker s w t)
   moved_session u p copy t some e spot tree leads near = put_session s w t below is (arrives u p copy t some e spot tree leads near).walker
 
+  -- where the walker stands, told by the parts of its spot
+  pub has_told : (p : TreeSpot) (r : TreeRules) (n : List ℕ) (i j : ℕ) → walker_at s w ≡ Some p → r ≡ s.rules → n ≡ p.name → i ≡ p.spin → j ≡ (state_at r.automaton (tile_state r p)).kind → HasAnswered s (At w) (AtPlace n i j) s
+  has_told p r n i j some e f g k =
+      let kind : j ≡ (state_at s.rules.automaton (tile_state s.rules p)).kind = k ∙ ap (λ (r : TreeRules). (state_at r.automaton (tile_state r p)).kind) e in
+      let told : AtPlace n i j ≡ AtPlace p.name p.spin (state_at s.rules.automaton (tile_state s.rules p)).kind = ap (λ n. AtPlace n i j) f ∙ ap (λ i. AtPlace p.name i j) g ∙ ap (AtPlace p.name p.spin) kind in
+      subst (λ x. HasAnswered s (At w) x s) (sym told) (answered s (At w) _ s sound is below (at_spot w p some))
+
 -- the outcome of a walk
 pub was_deep : (r : Result (Unit {0}) StepFault) (f : StepFault) → r ≡ Err f → f ≡ TooDeep → IsErrOf r TooDeep
 was_deep r f e g = e ∙ ap Err g
@@ -94,7 +96,10 @@ was_not_deep r x e (inl f) = absurd (cc)
 was_not_deep r x e (inr f) = absurd (cc)
 
 -- a session without walkers
-none_everywhere : (n w : ℕ) → get_or (replicate n (None {T = TreeSpot})) w None ≡ None
+abbrev nobody_here : Option TreeSpot
+nobody_here = None
+
+none_everywhere : (n w : ℕ) → get_or (replicate n nobody_here) w nobody_here ≡ nobody_here
 none_everywhere zero w = refl
 none_everywhere (suc n) zero = refl
 none_everywhere (suc n) (suc w) = none_everywhere n w
@@ -106,7 +111,7 @@ no_spot : (s : SessionState) (w : ℕ) (p : TreeSpot) → s.walkers ≡ replicat
 no_spot s w p e f = let g = sym (no_walker s w e) ∙ f in false≢true (ap is_some g)
 
 pub empty_session : (s : SessionState) → s.kind < length s.rules.kinds → s.walkers ≡ replicate 64 None → IsSession s
-empty_session s known e = record { known = known; places = ap length e ∙ length-replicate 64 None; spots = λ w p f. absurd (no_spot s w p e f) }
+empty_session s known e = record { known = known; places = ap length e ∙ length-replicate 64 nobody_here; spots = λ w p f. absurd (no_spot s w p e f) }
 
 pub empty_stands : (s : SessionState) → s.walkers ≡ replicate 64 None → StandsFor s []
 empty_stands s e = record {
@@ -130,3 +135,7 @@ module _ {E : Type 0} (old new : SessionState) (c d : Command) (r : Result Reply
       stands : (r : Result Reply E) → IfOk r (λ x. HasAnswered old d x new) → IfOk r (λ x. (h : List (Command × Reply)) → StandsFor old h → StandsFor new (h ++ (c, x) ∷ []))
       stands (Ok x) a = subst (λ c. (h : List (Command × Reply)) → StandsFor old h → StandsFor new (h ++ (c, x) ∷ [])) (sym e) a.stands
       stands (Err y) a = tt
+
+-- the answer to a command that is known in another way
+pub same_command : (old new : SessionState) (c d : Command) (x : Reply) → c ≡ d → HasAnswered old d x new → HasAnswered old c x new
+same_command old new c d x e a = subst (λ c. HasAnswered old c x new) (sym e) a
