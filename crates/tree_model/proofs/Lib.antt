@@ -1,3 +1,4 @@
 pub mod Sides
 pub mod Names
 pub mod Positions
+pub mod Rings

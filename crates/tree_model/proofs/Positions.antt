@@ -1,17 +1,17 @@
 -- Positions: the turns, the sides of the tree, and the types of sides.
-use Rattle.std.proofs.Common.{◌≡◌, ◌≢◌, ℕ, suc, ◌+◌, ◌*◌, ◌%◌, ◌<◌, ◌≤◌, ◌⊎◌, inl, inr, List, [], ◌∷◌, ◌++◌, length, refl, sym, ap, ap₂, ◌∙◌, subst, arith, add-zero, mod-eq_of_lt, mod-lt}
+use Rattle.std.proofs.Common.{◌≡◌, ◌≢◌, ℕ, suc, ◌+◌, ◌%◌, ◌<◌, ◌≤◌, ◌⊎◌, inl, inr, List, [], ◌∷◌, ◌++◌, length, refl, sym, ap, ap₂, ◌∙◌, subst, arith, add-zero, mod-eq_of_lt, mod-lt}
 use Rattle.std.proofs.Math.Nat.{mod-add-mod, add-mod-mod}
 use Rattle.std.proofs.lemmas.List.{length_push, get_or_default}
 use Rattle.std.proofs.lemmas.Bool.{cases_eq}
 use Rattle.tile_model.specs.Tessellations.{TileKind, kind_at, IsType, left, cross}
-use Rattle.tile_model.specs.Validity.{HasSides, HasRepeat, IsValid}
+use Rattle.tile_model.specs.Validity.{HasSides, IsValid}
 use Rattle.tile_model.proofs.Types.{left_is, cross_cross}
 use Rattle.tree_model.specs.declared.Rule.{Rule}
 use Rattle.tree_model.specs.declared.Rule.TheVariants.{Parent, Child, Left, Right}
-use Rattle.tree_model.specs.Automata.{TreeAutomaton, state_at, root_at, rule_at, side_count, type_at, next}
+use Rattle.tree_model.specs.Automata.{TreeAutomaton, state_at, root_at, side_count, type_at, next}
 use Rattle.tree_model.specs.Conditions.{IsRoot, IsAccepted}
-use Rattle.tree_model.specs.Contours.{Mark, Tree, Opens, Closes}
-use Rattle.tree_model.specs.Names.{child_of, reached, IsName, state_of}
+use Rattle.tree_model.specs.Contours.{Tree, Opens, Closes}
+use Rattle.tree_model.specs.Names.{child_of, IsName, state_of}
 use Rattle.tree_model.specs.Positions.{Position, IsPosition, parent, last_side, tree_across, mark_of_rule, turn_left, turn_right, rule_of, type_of_side, hop, mark}
 use Rattle.tree_model.proofs.Sides.{next_last, next_inner, next_below, previous_next, previous_below, next_previous}
 use Rattle.tree_model.proofs.Names.{LastView, empty, last, last_view, parent_push, last_side_push, reached_push, name_push, name_last, name_state}

@@ -1,11 +1,9 @@
 -- The twelve conditions on an automaton over a tessellation. Each is read at one place, and each is asked of all places: of every state,
 -- side, claim, corner type and root, whether the tree reaches it or not. A condition is read where those before it hold.
-use Rattle.std.specs.Prelude.{◌≡◌, ℕ, suc, ◌+◌, ◌-◌, ◌<◌, ◌≤◌, ◌↔◌, List, length, Contains, ℤ, pos, negsuc, ◌+ℤ◌, ◌-ℤ◌, ◌*ℤ◌, ◌<ℤ◌, ◌≤ℤ◌, nat_abs}
+use Rattle.std.specs.Prelude.{◌≡◌, ℕ, suc, ◌-◌, ◌<◌, ◌≤◌, ◌↔◌, List, length, Contains, pos, negsuc, ◌+ℤ◌, ◌-ℤ◌, ◌*ℤ◌, ◌<ℤ◌, ◌≤ℤ◌, nat_abs}
 use Rattle.tile_model.specs.Tessellations.{TileKind, kind_at, cross, valence}
-use Rattle.tree_model.specs.declared.Rule.{Rule}
 use Rattle.tree_model.specs.declared.Rule.TheVariants.{Parent, Child, Left, Right}
-use Rattle.tree_model.specs.declared.Claim.{Claim}
-use Rattle.tree_model.specs.Automata.{TreeAutomaton, state_at, corner_at, root_at, rule_at, claim_at, offset, corner_valence, outer, rank, side_count, type_at, next, previous, further}
+use Rattle.tree_model.specs.Automata.{TreeAutomaton, state_at, root_at, rule_at, claim_at, offset, corner_valence, outer, rank, side_count, type_at, next, previous, further}
 
 -- s is the root state of some kind
 abbrev pub IsRoot : TreeAutomaton → ℕ → Type 0

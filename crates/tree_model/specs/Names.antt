@@ -1,5 +1,5 @@
 -- The tree that an automaton generates: names of tiles, the states that they reach, their words, and the rings of names.
-use Rattle.std.specs.Prelude.{◌≡◌, ℕ, ◌<◌, ◌⊎◌, ◌↔◌, List, [], ◌∷◌, ◌++◌, length, replicate, Contains, AllPairs}
+use Rattle.std.specs.Prelude.{◌≡◌, ℕ, ◌<◌, ◌↔◌, List, [], ◌∷◌, ◌++◌, length, replicate, Contains, AllPairs}
 use Rattle.tile_model.specs.declared.Letter.{Letter}
 use Rattle.tile_model.specs.declared.Letter.TheVariants.{L, X}
 use Rattle.tile_model.specs.Tessellations.{TileKind}

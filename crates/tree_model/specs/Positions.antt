@@ -1,5 +1,5 @@
 -- Positions in the tree of a kind, the turns, and what lies across each side.
-use Rattle.std.specs.Prelude.{◌≡◌, ℕ, ◌<◌, List, [], ◌∷◌, ◌++◌, length}
+use Rattle.std.specs.Prelude.{◌≡◌, ℕ, ◌<◌, List, [], ◌∷◌, ◌++◌}
 use Rattle.tile_model.specs.declared.Letter.{Letter}
 use Rattle.tile_model.specs.declared.Letter.TheVariants.{L, R, X}
 use Rattle.tile_model.specs.Tessellations.{TileKind}
@@ -7,7 +7,7 @@ use Rattle.tree_model.specs.declared.Rule.{Rule}
 use Rattle.tree_model.specs.declared.Rule.TheVariants.{Parent, Child, Left, Right}
 use Rattle.tree_model.specs.declared.Claim.{Claim}
 use Rattle.tree_model.specs.Automata.{TreeAutomaton, rule_at, claim_at, type_at, side_count, next, previous}
-use Rattle.tree_model.specs.Contours.{Mark, Tree, Opens, Closes, FreeWay, AreMatched}
+use Rattle.tree_model.specs.Contours.{Mark, Tree, Opens, Closes, AreMatched}
 use Rattle.tree_model.specs.Names.{IsName, state_of}
 
 -- a name, and a side of its tile

@@ -1,6 +1,6 @@
 -- Exactly one place lies across each place, and it lies across in turn.
-use Rattle.std.proofs.Common.{◌≡◌, ℕ, zero, suc, ◌+◌, ◌-◌, refl, sym, ap, ◌∙◌, subst, arith}
-use Rattle.tree_model.specs.Contours.{Mark, Tree, Opens, Closes, mirrored, FreeWay, stay, tree, nested, AreMatched}
+use Rattle.std.proofs.Common.{◌≡◌, ℕ, suc, ◌+◌, ◌-◌, refl, sym, ap, ◌∙◌, subst, arith}
+use Rattle.tree_model.specs.Contours.{Tree, mirrored, FreeWay, stay, tree, nested, AreMatched}
 use Rattle.turn_rules.specs.Plane.{Land, IsPlane}
 use Rattle.turn_rules.proofs.Marks.{tree_open, tree_closes, open_closes, Which, its_tree, its_open, its_close, which}
 use Rattle.turn_rules.proofs.Ways.{join, one_match, match_mirrored}

@@ -1,12 +1,12 @@
 -- How many moves the walk along a free way takes, and how far its counter rises: both are bounded by the weight of its start.
-use Rattle.std.proofs.Common.{◌≡◌, ℕ, zero, suc, ◌+◌, ◌-◌, ◌*◌, ◌≤◌, ◌<◌, refl, sym, ap, ◌∙◌, subst, arith, ℤ, pos, ◌+ℤ◌, mul-le-mul_right, mul-le-mul_left, le_of_eq}
+use Rattle.std.proofs.Common.{◌≡◌, ℕ, zero, suc, ◌+◌, ◌-◌, ◌*◌, ◌≤◌, ◌<◌, refl, sym, ap, ◌∙◌, subst, arith, pos, ◌+ℤ◌, mul-le-mul_right, mul-le-mul_left, le_of_eq}
 use Rattle.std.proofs.lemmas.Int.{ints}
 use Rattle.tree_model.specs.Contours.{Mark, Opens, Closes, mirrored, FreeWay, stay, tree, nested, AreMatched}
 use Rattle.turn_rules.specs.Plane.{Land, IsPlane}
 use Rattle.turn_rules.specs.Machine.{Halts, room}
 use Rattle.turn_rules.proofs.Ways.{size, high, match_mirrored, mirrored_size, mirrored_high}
 use Rattle.turn_rules.proofs.Track.{Kept, kept, there_at, tree_kept, nested_kept, inner}
-use Rattle.turn_rules.proofs.Ends.{opened, closed, last_is, nested_lighter, there_last, before_closes, match_kept, place_next, weighs}
+use Rattle.turn_rules.proofs.Ends.{last_is, nested_lighter, there_last, before_closes, match_kept, place_next, weighs}
 use Rattle.turn_rules.proofs.Runs.{halts}
 
 room_up : (n d : ℕ) → room n ≤ room (d + n)

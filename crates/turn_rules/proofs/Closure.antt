@@ -1,14 +1,13 @@
 -- In the tree of accepted rules exactly one position lies across each position, it lies across in turn, their types are partners, and
 -- going round a corner leads back.
-use Rattle.std.proofs.Common.{◌≡◌, ℕ, zero, suc, ◌-◌, ◌<◌, List, [], ◌∷◌, length, refl, sym, ap, ◌∙◌, subst, arith}
+use Rattle.std.proofs.Common.{◌≡◌, ℕ, ◌<◌, List, [], ◌∷◌, length, refl, sym, ap, subst}
 use Rattle.tile_model.specs.declared.Letter.TheVariants.{L, X}
 use Rattle.tile_model.specs.Tessellations.{TileKind, left, cross, valence}
 use Rattle.tile_model.specs.Validity.{IsValid}
 use Rattle.tile_model.specs.Walks.{times}
 use Rattle.tree_model.specs.declared.Rule.TheVariants.{Left, Right}
-use Rattle.tree_model.specs.Automata.{TreeAutomaton, corner_valence}
+use Rattle.tree_model.specs.Automata.{TreeAutomaton}
 use Rattle.tree_model.specs.Conditions.{IsAccepted}
-use Rattle.tree_model.specs.Contours.{Opens, Closes}
 use Rattle.tree_model.specs.Positions.{Position, IsPosition, mark_of_rule, rule_of, claim_of, type_of_side, MatchesLeftwards, LiesAcross, Leads}
 use Rattle.tree_model.specs.Positions as positions
 use Rattle.turn_rules.proofs.Across.{Lies, in_tree, leftwards, rightwards, Round, at_end, turns, some, one, back, there_across, one_close, one_open, round}

@@ -1,12 +1,12 @@
 -- The walk along the contour, from each side outside the tree, stops at the side that lies across, and its counter fits a machine number.
-use Rattle.std.proofs.Common.{◌≡◌, ℕ, suc, ◌+◌, ◌*◌, ◌^◌, ◌<◌, ◌≤◌, Bool, true, false, List, length, refl, sym, ap, ◌∙◌, arith, mul-le-mul_left}
+use Rattle.std.proofs.Common.{◌≡◌, ℕ, suc, ◌^◌, ◌<◌, Bool, true, false, List, length, refl, arith}
 use Rattle.std.proofs.lemmas.Nat.{mul-le}
 use Rattle.tile_model.specs.Tessellations.{TileKind}
 use Rattle.tile_model.specs.Validity.{IsValid}
 use Rattle.tree_model.specs.Automata.{TreeAutomaton, rank}
 use Rattle.tree_model.specs.Conditions.{IsAccepted}
 use Rattle.tree_model.specs.Contours.{Mark, Tree, Opens, Closes, mirrored}
-use Rattle.tree_model.specs.Positions.{Position, IsPosition, mark, turn_right, LiesAcross, from_left, from_right}
+use Rattle.tree_model.specs.Positions.{Position, IsPosition, mark, turn_right, from_left, from_right}
 use Rattle.tree_model.proofs.Positions.{right_position}
 use Rattle.turn_rules.specs.Directions.{mark_towards, inner_corner, bound, Arrives}
 use Rattle.turn_rules.proofs.Ends.{opened, closed, there_match}

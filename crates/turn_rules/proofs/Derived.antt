@@ -4,9 +4,9 @@ use Rattle.tile_model.specs.declared.Letter.{Letter}
 use Rattle.tile_model.specs.declared.Letter.TheVariants.{L, X}
 use Rattle.tile_model.specs.Tessellations.{TileKind, valence}
 use Rattle.tile_model.specs.Walks.{type_of, times}
-use Rattle.tile_model.specs.Relation.{IsLoop, there_and_back, round_corner, AreRelated}
+use Rattle.tile_model.specs.Relation.{there_and_back, round_corner, AreRelated}
 use Rattle.tile_model.proofs.Relations.{related_equal, related_on, related_back, related_behind, related_loop}
-use Rattle.tree_model.specs.Contours.{Mark, Tree, Opens, Closes, FreeWay, stay, tree, nested, AreMatched}
+use Rattle.tree_model.specs.Contours.{Tree, Opens, Closes, FreeWay, stay, tree, nested, AreMatched}
 use Rattle.turn_rules.specs.Plane.{Land, IsPlane}
 use Rattle.turn_rules.proofs.Across.{Lies, in_tree, leftwards, rightwards}
 use Rattle.turn_rules.proofs.Track.{kept, there_at}

@@ -1,7 +1,7 @@
 -- Each opening side is matched with a closing side, and each closing side with an opening one, by induction on the weight.
-use Rattle.std.proofs.Common.{◌≡◌, ℕ, zero, suc, ◌+◌, ◌*◌, ◌<◌, refl, sym, ap, ◌∙◌, subst, arith, ℤ, pos, ◌+ℤ◌, ◌-ℤ◌, ◌*ℤ◌, ◌<ℤ◌}
+use Rattle.std.proofs.Common.{◌≡◌, ℕ, zero, suc, ◌+◌, ◌*◌, ◌<◌, refl, sym, ap, ◌∙◌, subst, arith, pos, ◌+ℤ◌, ◌-ℤ◌, ◌*ℤ◌, ◌<ℤ◌}
 use Rattle.std.proofs.lemmas.Int.{ints}
-use Rattle.tree_model.specs.Contours.{Mark, Tree, Opens, Closes, FreeWay, stay, tree, nested, AreMatched}
+use Rattle.tree_model.specs.Contours.{Tree, Opens, Closes, FreeWay, stay, tree, nested, AreMatched}
 use Rattle.turn_rules.specs.Plane.{Land, IsPlane}
 use Rattle.turn_rules.proofs.Marks.{Which, its_tree, its_open, its_close, which}
 use Rattle.turn_rules.proofs.Track.{Kept, tree_kept, nested_kept, kept, there_at}

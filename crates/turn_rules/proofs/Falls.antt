@@ -1,7 +1,7 @@
 -- The weight of a corner stays round it, falls at each nested side, and is bounded below.
-use Rattle.std.proofs.Common.{◌≡◌, ℕ, suc, ◌+◌, ◌*◌, refl, sym, ap, ◌∙◌, subst, arith, ℤ, pos, negsuc, ◌+ℤ◌, ◌-ℤ◌, ◌*ℤ◌, ◌<ℤ◌, ◌≤ℤ◌}
+use Rattle.std.proofs.Common.{◌≡◌, ℕ, suc, ◌*◌, refl, sym, ap, ◌∙◌, subst, arith, ℤ, pos, ◌+ℤ◌, ◌-ℤ◌, ◌*ℤ◌, ◌<ℤ◌, ◌≤ℤ◌}
 use Rattle.std.proofs.lemmas.Int.{ints}
-use Rattle.tree_model.specs.Contours.{Mark, Tree, Opens, Closes}
+use Rattle.tree_model.specs.Contours.{Tree, Opens, Closes}
 use Rattle.turn_rules.specs.Plane.{Land, IsPlane}
 use Rattle.turn_rules.proofs.Ends.{ranked_at}
 use Rattle.turn_rules.proofs.Weights.{spread, above_first}

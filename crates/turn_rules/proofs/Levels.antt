@@ -1,6 +1,6 @@
 -- The length of the name of a walk's place is the walk's distance from the root, and the tree rooted at the kind of the first tile tells
 -- the distance of any two tiles.
-use Rattle.std.proofs.Common.{◌≡◌, ℕ, zero, suc, ◌+◌, ◌<◌, ◌≤◌, ◌%◌, inl, inr, List, [], ◌∷◌, ◌++◌, length, replicate, refl, sym, ap, ◌∙◌, subst, arith, append_assoc, append-nil, mod-eq_of_lt, zero-add}
+use Rattle.std.proofs.Common.{◌≡◌, ℕ, suc, ◌+◌, ◌<◌, ◌≤◌, ◌%◌, inl, inr, List, [], ◌∷◌, ◌++◌, length, replicate, refl, sym, ap, ◌∙◌, subst, arith, append_assoc, mod-eq_of_lt, zero-add}
 use Rattle.tile_model.specs.declared.Letter.{Letter}
 use Rattle.tile_model.specs.declared.Letter.TheVariants.{L, R, X}
 use Rattle.tile_model.specs.Tessellations.{TileKind, kind_at, IsType}
@@ -22,6 +22,10 @@ use Rattle.turn_rules.proofs.TreePlane.{tree_land, plane}
 use Rattle.turn_rules.proofs.Walking.{moves_position}
 use Rattle.turn_rules.proofs.Words.{root_position, word_leads, crossings_position}
 use Rattle.turn_rules.proofs.Places.{leads_place, one_place, places_related, places_same_tile}
+
+-- what is walked in the tree of the first tile's kind, for the way from u, of type d, to w
+abbrev pub rerooted : ℕ × ℕ → List Letter → List Letter → List Letter
+rerooted d u w = replicate d.1 L ++ (inverse u ++ w)
 
 module _ (kinds : List TileKind) (a : TreeAutomaton) (k : ℕ) (valid : IsValid kinds) (ok : IsAccepted kinds a) (known : k < length kinds) where
   -- a crossing changes the depth by one at most
@@ -55,13 +59,13 @@ module _ (kinds : List TileKind) (a : TreeAutomaton) (k : ℕ) (valid : IsValid 
       record {
         attained = (position_word p, crossings_position p, (places_same_tile kinds a k valid ok known (position_word p) u p p (leads_place kinds a k valid ok known (position_word p) p w) h).0 refl);
         least = λ z s.
-          let (q, is, f) = one_place kinds a k valid ok known z in
-          let e = (places_same_tile kinds a k valid ok known z u q p is h).1 s in
-          omega (arith, ap length e, leads_near z root q at_root f);
+            let (q, is, f) = one_place kinds a k valid ok known z in
+            let e = (places_same_tile kinds a k valid ok known z u q p is h).1 s in
+            omega (arith, ap length e, leads_near z root q at_root f);
       }
 
 module _ (kinds : List TileKind) (a : TreeAutomaton) (valid : IsValid kinds) (ok : IsAccepted kinds a) where
-  start_type : (k : ℕ) → k < length kinds → IsType kinds (k, 0)
+  pub start_type : (k : ℕ) → k < length kinds → IsType kinds (k, 0)
   start_type k h = (h, (valid.repeat k h).positive)
 
   -- any type is reached from side 0 of its kind by turns
@@ -69,12 +73,8 @@ module _ (kinds : List TileKind) (a : TreeAutomaton) (valid : IsValid kinds) (ok
   turns_reach d h =
       type_lefts kinds valid d.1 (d.0, 0) (start_type d.0 h.0) ∙ ap (λ s. (d.0, s)) (ap (λ n. n % (kind_at kinds d.0).repeat) (zero-add d.1) ∙ mod-eq_of_lt h.1)
 
-  -- what is walked in the tree of the first tile's kind, for the way from u, of type d, to w
-  abbrev pub rerooted : ℕ × ℕ → List Letter → List Letter → List Letter
-  rerooted d u w = replicate d.1 L ++ (inverse u ++ w)
-
   -- The walk from the tile of u that turns back to side 0 and follows the word of the place leads to the tile of w.
-  rerooted_back : (k : ℕ) → k < length kinds → (u w : List Letter) (p : Position) → IsPlace kinds a (type_of kinds (k, 0) u).0 (rerooted (type_of kinds (k, 0) u) u w) p → AreRelated kinds (k, 0) (u ++ (inverse (replicate (type_of kinds (k, 0) u).1 L) ++ position_word p)) w
+  pub rerooted_back : (k : ℕ) → k < length kinds → (u w : List Letter) (p : Position) → IsPlace kinds a (type_of kinds (k, 0) u).0 (rerooted (type_of kinds (k, 0) u) u w) p → AreRelated kinds (k, 0) (u ++ (inverse (replicate (type_of kinds (k, 0) u).1 L) ++ position_word p)) w
   rerooted_back k known u w p h =
       let e = type_of kinds (k, 0) u in
       let l : List Letter = replicate e.1 L in
@@ -106,8 +106,8 @@ module _ (kinds : List TileKind) (a : TreeAutomaton) (valid : IsValid kinds) (ok
       record {
         attained = (z, n, related_same_tile kinds valid (k, 0) (start_type k known) (rerooted_back k known u w p h));
         least = λ y s.
-          let turns : List Letter = replicate s.turns L in
-          let r = related_on kinds (related_equal kinds (sym (append_assoc u y turns))) s.related in
-          let m = rerooted_least k known u w (y ++ turns) p h r in
-          omega (arith, m, crossings_append y turns, crossings_lefts s.turns);
+            let turns : List Letter = replicate s.turns L in
+            let r = related_on kinds (related_equal kinds (sym (append_assoc u y turns))) s.related in
+            let m = rerooted_least k known u w (y ++ turns) p h r in
+            omega (arith, m, crossings_append y turns, crossings_lefts s.turns);
       }

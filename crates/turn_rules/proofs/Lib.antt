@@ -18,3 +18,5 @@ pub mod Levels
 pub mod Falls
 pub mod Together
 pub mod Spots
+pub mod Shortest
+pub mod RingTiles

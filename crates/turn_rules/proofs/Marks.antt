@@ -1,26 +1,17 @@
 -- A place has one mark.
-use Rattle.std.proofs.Common.{◌≡◌, refl, sym, ◌∙◌, subst}
+use Rattle.std.proofs.Common.{◌≡◌, refl}
 use Rattle.tree_model.specs.Contours.{Mark, Tree, Opens, Closes}
 
-abbrev Is_tree : Mark → Type 0
-Is_tree Tree = Unit {0}
-Is_tree Opens = ⊥
-Is_tree Closes = ⊥
-
-abbrev Is_open : Mark → Type 0
-Is_open Tree = ⊥
-Is_open Opens = Unit {0}
-Is_open Closes = ⊥
-
 pub tree_open : {m : Mark} → m ≡ Tree → m ≡ Opens → ⊥
-tree_open a b = subst Is_tree (sym a ∙ b) tt
+tree_open a b = absurd (cc)
 
 pub tree_closes : {m : Mark} → m ≡ Tree → m ≡ Closes → ⊥
-tree_closes a b = subst Is_tree (sym a ∙ b) tt
+tree_closes a b = absurd (cc)
 
 pub open_closes : {m : Mark} → m ≡ Opens → m ≡ Closes → ⊥
-open_closes a b = subst Is_open (sym a ∙ b) tt
+open_closes a b = absurd (cc)
 
+-- the three cases of a mark
 pub data Which (m : Mark) : Type 0 where
   its_tree : m ≡ Tree → Which m
   its_open : m ≡ Opens → Which m

@@ -12,7 +12,7 @@ use Rattle.tile_model.proofs.Relations.{related_on, related_back}
 use Rattle.tree_model.specs.Automata.{TreeAutomaton, side_count}
 use Rattle.tree_model.specs.Conditions.{IsAccepted}
 use Rattle.tree_model.specs.Names.{state_of}
-use Rattle.tree_model.specs.Positions.{Position, IsPosition, root, type_of_side, Leads}
+use Rattle.tree_model.specs.Positions.{Position, IsPosition, root, Leads}
 use Rattle.tree_model.specs.Places.{position_word, IsPlace}
 use Rattle.tree_model.proofs.Positions.{make_position, same_position}
 use Rattle.turn_rules.proofs.Walking.{leads_append, lefts_lead, lefts_over, lefts_stay, sides_of_type, leads_on, leads_same, leads_position, leads_type, related_leads}
@@ -54,9 +54,9 @@ module _ (kinds : List TileKind) (a : TreeAutomaton) (k : ℕ) (valid : IsValid 
   -- one place exactly where related
   pub places_related : (u w : List Letter) (p q : Position) → Place u p → Place w q → (p ≡ q) ↔ AreRelated kinds (k, 0) u w
   places_related u w p q h g = (
-      (λ e. related_on kinds (related_back kinds h.related) (subst (λ o. AreRelated kinds (k, 0) (position_word o) w) (sym e) g.related)),
-      (λ r. leads_same kinds a k valid ok known w root p q (from_root u w p r (place_leads u p h)) (place_leads w q g)),
-    )
+    (λ e. related_on kinds (related_back kinds h.related) (subst (λ o. AreRelated kinds (k, 0) (position_word o) w) (sym e) g.related)),
+    (λ r. leads_same kinds a k valid ok known w root p q (from_root u w p r (place_leads u p h)) (place_leads w q g)),
+  )
 
   -- turns to the left from one side of a tile to another
   pub turns_to : (m : List ℕ) (i j : ℕ) → i < side_count kinds a (state_of a k m) → j < side_count kinds a (state_of a k m) → (s : ℕ) × (s < side_count kinds a (state_of a k m)) × Go (make_position m i) (replicate s L) (make_position m j)
@@ -76,16 +76,16 @@ module _ (kinds : List TileKind) (a : TreeAutomaton) (k : ℕ) (valid : IsValid 
   -- one name exactly where at the same tile
   pub places_same_tile : (u w : List Letter) (p q : Position) → Place u p → Place w q → (p.name ≡ q.name) ↔ AreAtSameTile kinds (k, 0) u w
   places_same_tile u w p q h g = (
-      (λ e.
-          let there : q.side < side_count kinds a (state_of a k p.name) = subst (λ m. q.side < side_count kinds a (state_of a k m)) (sym e) g.position.side in
-          let s = turns_to p.name p.side q.side h.position.side there in
-          let to_q : Go p (replicate s.0 L) q = subst (λ o. Go p (replicate s.0 L) o) (same_position (make_position p.name q.side) q e refl) s.2 in
-          let whole = leads_append kinds a k u (replicate s.0 L) root p q (place_leads u p h) to_q in
-          let fewer = subst (λ n. s.0 < n) (place_sides u p h) s.1 in
-          record { turns = s.0; fewer = fewer; related = (places_related (u ++ replicate s.0 L) w q q (leads_place (u ++ replicate s.0 L) q whole) g).0 refl }),
-      (λ r.
-          let (m, f) = leads_on kinds a k valid ok known (replicate r.turns L) p h.position in
-          let whole = leads_append kinds a k u (replicate r.turns L) root p m (place_leads u p h) f in
-          let e = leads_same kinds a k valid ok known w root m q (from_root (u ++ replicate r.turns L) w m r.related whole) (place_leads w q g) in
-          sym (lefts_stay kinds a k r.turns p m f) ∙ ap (λ o. o.name) e),
-    )
+    (λ e.
+        let there : q.side < side_count kinds a (state_of a k p.name) = subst (λ m. q.side < side_count kinds a (state_of a k m)) (sym e) g.position.side in
+        let s = turns_to p.name p.side q.side h.position.side there in
+        let to_q : Go p (replicate s.0 L) q = subst (λ o. Go p (replicate s.0 L) o) (same_position (make_position p.name q.side) q e refl) s.2 in
+        let whole = leads_append kinds a k u (replicate s.0 L) root p q (place_leads u p h) to_q in
+        let fewer = subst (λ n. s.0 < n) (place_sides u p h) s.1 in
+        record { turns = s.0; fewer = fewer; related = (places_related (u ++ replicate s.0 L) w q q (leads_place (u ++ replicate s.0 L) q whole) g).0 refl }),
+    (λ r.
+        let (m, f) = leads_on kinds a k valid ok known (replicate r.turns L) p h.position in
+        let whole = leads_append kinds a k u (replicate r.turns L) root p m (place_leads u p h) f in
+        let e = leads_same kinds a k valid ok known w root m q (from_root (u ++ replicate r.turns L) w m r.related whole) (place_leads w q g) in
+        sym (lefts_stay kinds a k r.turns p m f) ∙ ap (λ o. o.name) e),
+  )

@@ -1,6 +1,6 @@
 -- The walk with a counter runs along a free way, stops at the matched side, and its measure tells the moves that are left.
-use Rattle.std.proofs.Common.{◌≡◌, ℕ, zero, suc, ◌+◌, ◌≤◌, ◌<◌, Bool, true, false, nat_eq, refl, sym, ap, ◌∙◌, subst, arith}
-use Rattle.tree_model.specs.Contours.{Mark, Opens, Closes, FreeWay, stay, tree, nested, AreMatched}
+use Rattle.std.proofs.Common.{◌≡◌, ℕ, zero, suc, ◌+◌, ◌≤◌, ◌<◌, true, false, nat_eq, refl, sym, ap, ◌∙◌, subst, arith}
+use Rattle.tree_model.specs.Contours.{Mark, Closes, FreeWay, stay, tree, nested, AreMatched}
 use Rattle.turn_rules.specs.Machine.{Halts, stops, hops, opens, closes, left_after, moves_left, Moved}
 use Rattle.turn_rules.proofs.Ways.{size, high}
 

@@ -1,7 +1,7 @@
 -- The laws of the tree of accepted rules, put together.
-use Rattle.std.proofs.Common.{◌≡◌, ℕ, List, length, ap}
+use Rattle.std.proofs.Common.{ap}
 use Rattle.tree_model.specs.Positions.{Position, IsPosition, mark_of_rule}
-use Rattle.turn_rules.specs.Laws.{OfEachTree, LeftSidesAreMatched, RightSidesAreMatched, AcrossIsOne, AcrossIsBack, AcrossIsPartner, AcrossIsNear, CornersClose, WalksArrive, WeightStays, WeightFalls, WeightIsBounded, HasOnePlace, WalksHaveOnePlace, PlacesTellRelated, NamesTellTiles, DepthIsDistance}
+use Rattle.turn_rules.specs.Laws.{OfEachTree, LeftSidesAreMatched, RightSidesAreMatched, AcrossIsOne, AcrossIsBack, AcrossIsPartner, AcrossIsNear, CornersClose, WalksArrive, WeightStays, WeightFalls, WeightIsBounded, WalksHaveOnePlace, PlacesTellRelated, NamesTellTiles, DepthIsDistance}
 use Rattle.turn_rules.proofs.TreePlane.{tree_land, plane}
 use Rattle.turn_rules.proofs.Falls.{stays, falls_left, falls_right, bounded_left, bounded_right}
 use Rattle.turn_rules.proofs.Closure.{left_matched, one_right, right_matched, one_left, across, across_same, across_back, across_types, round_corner}

@@ -1,7 +1,7 @@
 -- Along a free way the corner stays, and place and depth keep in step.
-use Rattle.std.proofs.Common.{◌≡◌, ℕ, suc, ◌+◌, refl, sym, ap, ◌∙◌, subst, arith, ℤ, pos, ◌+ℤ◌}
+use Rattle.std.proofs.Common.{◌≡◌, ℕ, suc, ◌+◌, refl, sym, ap, ◌∙◌, subst, arith, pos, ◌+ℤ◌}
 use Rattle.std.proofs.lemmas.Int.{ints}
-use Rattle.tree_model.specs.Contours.{Mark, Tree, Opens, Closes, FreeWay, stay, tree, nested}
+use Rattle.tree_model.specs.Contours.{Tree, Opens, Closes, FreeWay, stay, tree, nested}
 use Rattle.turn_rules.specs.Plane.{Land, IsPlane}
 use Rattle.turn_rules.proofs.Ways.{there_end}
 

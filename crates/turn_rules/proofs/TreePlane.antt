@@ -1,14 +1,13 @@
 -- The positions of the tree of accepted rules are a plane. This is the one place where the conditions are read for matching and crossing.
-use Rattle.std.proofs.Common.{◌≡◌, ℕ, zero, suc, ◌+◌, ◌-◌, ◌<◌, ◌≤◌, inl, inr, List, length, refl, sym, ap, ◌∙◌, subst, arith, ℤ, pos, ◌+ℤ◌, ◌-ℤ◌}
+use Rattle.std.proofs.Common.{◌≡◌, ℕ, zero, suc, ◌-◌, ◌<◌, inl, inr, List, length, refl, sym, ap, ◌∙◌, subst, arith, ℤ, pos, ◌+ℤ◌, ◌-ℤ◌}
 use Rattle.std.proofs.lemmas.Int.{ints}
 use Rattle.tile_model.specs.Tessellations.{TileKind, left, cross, valence, around, around_times}
 use Rattle.tile_model.specs.Validity.{IsValid}
 use Rattle.tile_model.proofs.Types.{cross_cross}
 use Rattle.tree_model.specs.declared.Claim.{Claim}
-use Rattle.tree_model.specs.declared.Rule.TheVariants.{Left, Right}
-use Rattle.tree_model.specs.Automata.{TreeAutomaton, rule_at, claim_at, offset, corner_valence, outer, rank, side_count, next, previous, further}
+use Rattle.tree_model.specs.Automata.{TreeAutomaton, claim_at, offset, corner_valence, outer, rank, side_count, next, previous, further}
 use Rattle.tree_model.specs.Conditions.{IsAccepted}
-use Rattle.tree_model.specs.Contours.{Mark, Tree, Opens, Closes}
+use Rattle.tree_model.specs.Contours.{Tree, Opens, Closes}
 use Rattle.tree_model.specs.Names.{child_of, state_of}
 use Rattle.tree_model.specs.Positions.{Position, IsPosition, mark_of_rule, turn_left, turn_right, rule_of, claim_of, type_of_side, hop, mark}
 use Rattle.tree_model.proofs.Sides.{next_below, next_zero, previous_next}
@@ -183,6 +182,6 @@ module _ (kinds : List TileKind) (a : TreeAutomaton) (k : ℕ) (valid : IsValid 
     of_hop = λ p h t. tree_type kinds a k valid ok known p (hop kinds a k p) h (hop_across kinds a k valid ok known p h t);
     partners = λ p h. cross_cross kinds valid (type_of_side kinds a k p);
     round = λ p h.
-      let d = type_of_side kinds a k p in
-      iterated_around (suc (corner_valence a (C p).corner - 1)) d ∙ ap (λ n. around_times kinds n d) (valence_is p h) ∙ (valid.corner d (side_type kinds a k valid ok known (S p) p.side (known_state p h))).closes;
+        let d = type_of_side kinds a k p in
+        iterated_around (suc (corner_valence a (C p).corner - 1)) d ∙ ap (λ n. around_times kinds n d) (valence_is p h) ∙ (valid.corner d (side_type kinds a k valid ok known (S p) p.side (known_state p h))).closes;
   }

@@ -1,6 +1,6 @@
 -- The types of two sides that lie across from each other are partners.
 use Rattle.std.proofs.Common.{◌≡◌, ℕ, zero, suc, ◌+◌, refl, sym, ap, ◌∙◌, arith}
-use Rattle.tree_model.specs.Contours.{Mark, Tree, Opens, Closes, FreeWay, stay, tree, nested, AreMatched}
+use Rattle.tree_model.specs.Contours.{Tree, Opens, Closes, FreeWay, stay, tree, nested, AreMatched}
 use Rattle.turn_rules.specs.Plane.{Land, IsPlane}
 use Rattle.turn_rules.proofs.Across.{Lies, in_tree, leftwards, rightwards}
 use Rattle.turn_rules.proofs.Track.{kept, there_at}

@@ -1,5 +1,5 @@
 -- Walks over the positions of the tree: each leads to one position, each loop leads back, and related walks lead to one position.
-use Rattle.std.proofs.Common.{◌≡◌, ℕ, zero, suc, ◌+◌, ◌-◌, ◌<◌, ◌≤◌, List, [], ◌∷◌, ◌++◌, length, replicate, refl, sym, ap, ◌∙◌, subst, arith, zero-add}
+use Rattle.std.proofs.Common.{◌≡◌, ℕ, zero, suc, ◌+◌, ◌-◌, ◌<◌, List, [], ◌∷◌, ◌++◌, length, replicate, refl, sym, ap, ◌∙◌, subst, arith}
 use Rattle.std.proofs.lemmas.List.{replicate-append-replicate}
 use Rattle.tile_model.specs.declared.Letter.{Letter}
 use Rattle.tile_model.specs.declared.Letter.TheVariants.{L, R, X}
@@ -146,15 +146,15 @@ module _ (kinds : List TileKind) (a : TreeAutomaton) (k : ℕ) (valid : IsValid 
 
       inserted : (before behind : List Letter) (j : ℕ) (loop : List Letter) → IsLoop kinds (type_of kinds (T p) before) j loop → Alike (before ++ behind) (before ++ (loop ++ behind))
       inserted before behind j loop is q = (
-          (λ f.
-              let (m, f1, f2) = leads_split kinds a k before behind p q f in
-              leads_append kinds a k before (loop ++ behind) p m q f1 (leads_append kinds a k loop behind m m q (closes m f1) f2)),
-          (λ f.
-              let (m, f1, f2) = leads_split kinds a k before (loop ++ behind) p q f in
-              let (n, g1, g2) = leads_split kinds a k loop behind m q f2 in
-              let e = leads_same loop m n m g1 (closes m f1) in
-              leads_append kinds a k before behind p m q f1 (subst (λ o. Leads kinds a k o behind q) e g2)),
-        )
+        (λ f.
+            let (m, f1, f2) = leads_split kinds a k before behind p q f in
+            leads_append kinds a k before (loop ++ behind) p m q f1 (leads_append kinds a k loop behind m m q (closes m f1) f2)),
+        (λ f.
+            let (m, f1, f2) = leads_split kinds a k before (loop ++ behind) p q f in
+            let (n, g1, g2) = leads_split kinds a k loop behind m q f2 in
+            let e = leads_same loop m n m g1 (closes m f1) in
+            leads_append kinds a k before behind p m q f1 (subst (λ o. Leads kinds a k o behind q) e g2)),
+      )
         where
           closes : (m : Position) → Leads kinds a k p before m → Leads kinds a k m loop m
           closes m f = loop_leads m (leads_position before p m h f) (subst (λ d. IsLoop kinds d j loop) (sym (leads_type before p m h f)) is)

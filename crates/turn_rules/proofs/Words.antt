@@ -1,25 +1,23 @@
 -- The word of each position, and that a walk is related to the word of the position that it leads to.
-use Rattle.std.proofs.Common.{◌≡◌, ◌≢◌, ℕ, zero, suc, ◌+◌, ◌-◌, ◌<◌, ◌⊎◌, inl, inr, List, [], ◌∷◌, ◌++◌, length, replicate, refl, sym, ap, ap₂, ◌∙◌, subst, arith, append_assoc, append-nil, mod-eq_of_lt}
+use Rattle.std.proofs.Common.{◌≡◌, ◌≢◌, ℕ, zero, suc, ◌<◌, ◌⊎◌, inl, inr, List, [], ◌∷◌, ◌++◌, length, replicate, refl, sym, ap, ap₂, ◌∙◌, subst, arith, append_assoc, append-nil}
 use Rattle.std.proofs.lemmas.Bool.{cases_eq}
 use Rattle.tile_model.specs.declared.Letter.{Letter}
 use Rattle.tile_model.specs.declared.Letter.TheVariants.{L, R, X}
-use Rattle.tile_model.specs.Tessellations.{TileKind, kind_at, valence, sides}
+use Rattle.tile_model.specs.Tessellations.{TileKind, valence, sides}
 use Rattle.tile_model.specs.Validity.{IsValid}
 use Rattle.tile_model.specs.Walks.{type_of, crossings}
 use Rattle.tile_model.specs.Relation.{IsLoop, there_and_back, left_and_right, full_turn, AreRelated}
 use Rattle.tile_model.proofs.Relations.{related_equal, related_on, related_back, related_behind, related_loop}
 use Rattle.tile_model.proofs.Inverses.{crossings_append, crossings_lefts}
-use Rattle.tree_model.specs.declared.Rule.TheVariants.{Child}
-use Rattle.tree_model.specs.Automata.{TreeAutomaton, state_at, root_at, rule_at, side_count, corner_valence, next}
+use Rattle.tree_model.specs.Automata.{TreeAutomaton, root_at, side_count}
 use Rattle.tree_model.specs.Conditions.{IsAccepted}
-use Rattle.tree_model.specs.Contours.{Tree}
 use Rattle.tree_model.specs.Names.{IsNameBelow, state_of, word}
-use Rattle.tree_model.specs.Positions.{Position, IsPosition, root, turn_left, turn_right, rule_of, claim_of, type_of_side, hop, mark, LiesAcross, in_tree, Moves, Leads}
+use Rattle.tree_model.specs.Positions.{Position, IsPosition, root, turn_left, turn_right, type_of_side, hop, LiesAcross, in_tree, Moves, Leads}
 use Rattle.tree_model.specs.Places.{position_word}
 use Rattle.tree_model.proofs.Sides.{next_last, next_inner}
-use Rattle.tree_model.proofs.Positions.{make_position, same_position, left_right, left_position, right_position, IsDown, IsTreeAcross, down_state, down_position, some_sides, state_known, hop_across, hop_position, tree_mark, across_hop, type_zero}
+use Rattle.tree_model.proofs.Positions.{make_position, same_position, left_right, right_position, IsDown, IsTreeAcross, down_state, down_position, some_sides, hop_across, hop_position, tree_mark, across_hop, type_zero}
 use Rattle.turn_rules.proofs.TreePlane.{tree_land, plane, valence_is}
-use Rattle.turn_rules.proofs.Closure.{lies, across_position}
+use Rattle.turn_rules.proofs.Closure.{lies}
 use Rattle.turn_rules.proofs.Walking.{leads_append, lefts_from_first, sides_of_type, moves_position, leads_type}
 use Rattle.turn_rules.proofs.Derived.{AreWorded, across_related}
 

@@ -1,5 +1,5 @@
 -- The two directions along the contour of the tree of a kind: the turn, what each side is on the way, and the bound of the counter.
-use Rattle.std.specs.Prelude.{◌≡◌, ℕ, suc, ◌+◌, ◌*◌, ◌≤◌, Bool, true, false, List, length}
+use Rattle.std.specs.Prelude.{ℕ, suc, ◌+◌, ◌*◌, ◌≤◌, Bool, true, false, List, length}
 use Rattle.tile_model.specs.Tessellations.{TileKind}
 use Rattle.tree_model.specs.Automata.{TreeAutomaton, rank}
 use Rattle.tree_model.specs.Contours.{Mark, mirrored}

@@ -6,5 +6,5 @@ pub mod laws;
 mod sides;
 mod spot;
 
-pub use sides::{next_left, next_right, rule, side_count};
+pub use sides::{corner_rank, next_left, next_right, rule, side_count};
 pub use spot::Spot;

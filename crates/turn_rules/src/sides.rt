@@ -1,6 +1,6 @@
 //! The sides of a tile in a state: how many there are, which one comes next, and what each is in the tree.
 ghost use Rattle.std.specs.Prelude.{◌≡◌, ◌<◌, ◌≤◌, length};
-ghost use Rattle.tree_model.specs.Automata.{next, previous, rule_at, side_count as count};
+ghost use Rattle.tree_model.specs.Automata.{claim_at, next, previous, rank, rule_at, side_count as count};
 
 use structure_check::Rules;
 use tree_model::Rule;
@@ -48,4 +48,14 @@ pub fn next_right(r: &Rules, state: u32, side: u8) -> u8
     } else {
         side - 1
     }
+}
+
+/// The rank of the corner at the left end of a side of a tile in a state of the rules.
+pub fn corner_rank(r: &Rules, state: u32, side: u8) -> u32
+    requires state { state < length r.now.automaton.states }
+    requires side { side < count r.now.kinds r.now.automaton state }
+    ensures { result ≡ rank r.now.automaton (claim_at r.now.automaton state side).corner }
+{
+    let claim = r.automaton().claim(state, side);
+    r.automaton().rank(claim.corner)
 }

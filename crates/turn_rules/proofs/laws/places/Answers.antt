@@ -1,4 +1,4 @@
-use Rattle.turn_rules.proofs.Together.{walks_one_place, places_tell, names_tell, depth_distance}
+use Rattle.turn_rules.proofs.Together.{walks_one_place, places_tell, names_tell}
 use Rattle.turn_rules.proofs.laws.places.Goals as goal
 
 pub returns-clause-one : goal.returns-clause-one
@@ -9,6 +9,3 @@ returns-clause-related c = places_tell
 
 pub returns-clause-tiles : goal.returns-clause-tiles
 returns-clause-tiles c = names_tell
-
-pub returns-clause-distance : goal.returns-clause-distance
-returns-clause-distance c = depth_distance

@@ -1,0 +1,14 @@
+//! Rules files: the tables of an automaton as JSON text, read with the exact shape of the format, and printed in one canonical form.
+#![tactic(auto)]
+
+mod entry;
+mod fault;
+mod print;
+mod read;
+
+pub use fault::{Part, RulesFault};
+pub use print::print_rules;
+pub use read::read_rules;
+
+#[cfg(test)]
+mod tests;

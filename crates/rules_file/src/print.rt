@@ -1,0 +1,113 @@
+//! Printing the canonical text of a rules file.
+ghost use Rattle.std.specs.Prelude.{◌≡◌, ◌++◌, ◌∷◌, [], false, IfOk};
+ghost use Rattle.serde_json.specs.Data.{Data};
+ghost use Rattle.serde_json.specs.View.{view};
+ghost use Rattle.serde_json.specs.Written.{has_float, compact_text};
+ghost use Rattle.rules_file.specs.Spelling.{whole, offset_json, rule_json, pair_json, list_json, corner_json, state_json, automaton_json, rules_text};
+
+use rules_data::{Automaton, Claim, Corner, Rule, State};
+use serde_json::{Value, json};
+use std::alloc::{AllocError, Global};
+
+/// The canonical text: compact JSON with the members of the format alone, in byte order of their names, and a line feed. Only want of
+/// memory refuses it.
+pub fn print_rules(alloc: Global, a: &Automaton) -> Result<Vec<u8>, AllocError>
+    ensures canonical { IfOk result (λ v. v.items ≡ rules_text a.now) }
+{
+    let json = to_json(alloc, a)?;
+    line(alloc, &json)
+}
+
+/// The compact text of a value with no float, and a line feed.
+fn line(alloc: Global, json: &Value) -> Result<Vec<u8>, AllocError>
+    requires { has_float (view json.now) ≡ false }
+    ensures { IfOk result (λ v. v.items ≡ compact_text (view json.now) ++ 10 ∷ []) }
+{
+    let mut bytes = json.to_string(alloc)?.into_bytes();
+    bytes.push(b'\n')?;
+    Ok(bytes)
+}
+
+fn to_json(alloc: Global, a: &Automaton) -> Result<Value, AllocError>
+    ensures { IfOk result (λ v. view v ≡ automaton_json a.now) }
+{
+    let corners = list(alloc, &a.corners)?;
+    let roots = list(alloc, &a.roots)?;
+    let states = list(alloc, &a.states)?;
+    json!(in alloc; {"corners": corners, "roots": roots, "scale": a.scale, "states": states, "version": 1u32})
+}
+
+/// A value that is printed as JSON.
+trait Printed {
+    ghost json: { Self → Data };
+
+    fn print(&self, alloc: Global) -> Result<Value, AllocError>
+        ensures { IfOk result (λ v. view v ≡ json self.now) };
+}
+
+impl Printed for u32 {
+    ghost json = { whole };
+
+    fn print(&self, _alloc: Global) -> Result<Value, AllocError> {
+        Ok(Value::from(*self))
+    }
+}
+
+impl Printed for i8 {
+    ghost json = { offset_json };
+
+    fn print(&self, _alloc: Global) -> Result<Value, AllocError> {
+        Ok(Value::from(*self))
+    }
+}
+
+impl Printed for Rule {
+    ghost json = { rule_json };
+
+    fn print(&self, alloc: Global) -> Result<Value, AllocError> {
+        match self {
+            Rule::Parent => Value::try_from_str(alloc, "P"),
+            Rule::Child(state) => Ok(Value::from(*state)),
+            Rule::Left => Value::try_from_str(alloc, "L"),
+            Rule::Right => Value::try_from_str(alloc, "R"),
+        }
+    }
+}
+
+impl Printed for Claim {
+    ghost json = { pair_json };
+
+    fn print(&self, alloc: Global) -> Result<Value, AllocError> {
+        json!(in alloc; [self.corner, self.place])
+    }
+}
+
+impl Printed for Corner {
+    ghost json = { corner_json };
+
+    fn print(&self, alloc: Global) -> Result<Value, AllocError> {
+        let offsets = list(alloc, &self.offsets)?;
+        let outer = self.outer.print(alloc)?;
+        json!(in alloc; {"h": offsets, "outer": outer, "rank": self.rank})
+    }
+}
+
+impl Printed for State {
+    ghost json = { state_json };
+
+    fn print(&self, alloc: Global) -> Result<Value, AllocError> {
+        let claims = list(alloc, &self.claims)?;
+        let rules = list(alloc, &self.rules)?;
+        json!(in alloc; {"claims": claims, "kind": self.kind, "off": self.off, "rules": rules})
+    }
+}
+
+fn list<T: Printed>(alloc: Global, values: &[T]) -> Result<Value, AllocError>
+    ensures { IfOk result (λ v. view v ≡ list_json T.json values.now) }
+{
+    let mut printed = Vec::with_capacity(alloc, values.len())?;
+    for value in values {
+        printed.push(value.print(alloc)?)?;
+    }
+    Ok(Value::Array(printed))
+}

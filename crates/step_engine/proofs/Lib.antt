@@ -1,0 +1,3 @@
+pub mod Detours
+pub mod Contours
+pub mod Walks

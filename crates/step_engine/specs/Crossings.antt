@@ -1,0 +1,33 @@
+-- What lies across the faced side of a spot, where walks lead from it, and which crossings arrive too deep.
+use Rattle.std.specs.Prelude.{◌≡◌, ℕ, ◌<◌, List, [], ◌∷◌, ◌++◌, length}
+use Rattle.tile_model.specs.declared.Letter.{Letter}
+use Rattle.tile_model.specs.declared.Letter.TheVariants.{X}
+use Rattle.structure_check.specs.Rules.{TreeRules}
+use Rattle.tree_model.specs.Positions.{Position, LiesAcross, Leads}
+use Rattle.turn_rules.specs.Spots.{TreeSpot, position, root_kind}
+
+-- Position q lies across the faced side.
+abbrev pub IsAcross : TreeRules → TreeSpot → Position → Type 0
+IsAcross rules s q = LiesAcross rules.kinds rules.automaton (root_kind rules s) (position s) q
+
+-- The walk leads from the spot to position q.
+abbrev pub LeadsTo : TreeRules → TreeSpot → List Letter → Position → Type 0
+LeadsTo rules s walk q = Leads rules.kinds rules.automaton (root_kind rules s) (position s) walk q
+
+-- In the tree of kind k, what lies across position p has a name of more than `most` sides.
+pub record IsDeepAcross (rules : TreeRules) (k : ℕ) (p : Position) (most : ℕ) : Type 0 where
+  pub there : Position
+  pub across : LiesAcross rules.kinds rules.automaton k p there
+  pub deep : most < length there.name
+
+abbrev pub CrossesDeep : TreeRules → TreeSpot → ℕ → Type 0
+CrossesDeep rules s most = IsDeepAcross rules (root_kind rules s) (position s) most
+
+-- Some crossing on the walk arrives at a name of more than `most` sides.
+pub record WalksDeep (rules : TreeRules) (s : TreeSpot) (walk : List Letter) (most : ℕ) : Type 0 where
+  pub before : List Letter
+  pub behind : List Letter
+  pub split : walk ≡ before ++ X ∷ behind
+  pub there : Position
+  pub leads : LeadsTo rules s (before ++ X ∷ []) there
+  pub deep : most < length there.name

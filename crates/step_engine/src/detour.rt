@@ -1,0 +1,261 @@
+//! The way along the contour of the tree from a spot, which itself stays where it is until the way is accepted.
+ghost use Rattle.std.specs.Prelude.{◌≡◌, ◌≢◌, ◌↔◌, ◌<◌, ◌≤◌, ◌+◌, ◌^◌, Bool, true, false, nat_eq, List, [], ◌∷◌, ◌++◌, length, IfOk, OnOk, OnErr, IsErrOf, IsTrue};
+ghost use Rattle.structure_check.specs.Rules.{TreeRules};
+ghost use Rattle.tree_model.specs.Automata.{next, previous, rank, side_count};
+ghost use Rattle.tree_model.specs.Contours.{Opens};
+ghost use Rattle.turn_rules.specs.Spots.{IsSpot, root_kind, tile_state, faced_rule, position};
+ghost use Rattle.turn_rules.specs.Directions.{turned, mark_towards, inner_corner, bound};
+ghost use Rattle.step_engine.specs.Detours.{IsShaped, IsDetour, IsAbove, ComesTo, HasMoved, HasCrossed, HasStepped, spot_there, there};
+ghost use Rattle.step_engine.specs.Crossings.{IsDeepAcross};
+
+use crate::fault::{DEEPEST, StepFault};
+use smallvec::SmallVec;
+use std::alloc::AllocError;
+use structure_check::Rules;
+use tree_model::Rule;
+use turn_rules::{Spot, corner_rank, next_left, next_right, rule};
+use walk_words::Letter;
+
+/// How many sides below the spot's own name a detour keeps without an allocation.
+const INLINE: usize = 32;
+
+/// A place in the tree, by how its name leaves that of a spot: the first `kept` sides of the spot's name, and then other sides, with the
+/// states that they lead to.
+#[derive(Drop)]
+pub(crate) struct Detour {
+    pub(crate) kept: usize,
+    pub(crate) sides: SmallVec<u8, INLINE>,
+    pub(crate) states: SmallVec<u32, INLINE>,
+    pub(crate) spin: u8,
+}
+
+impl Detour {
+    /// The detour that has not left the spot.
+    pub(crate) fn start(s: &Spot) -> Detour
+        ensures { (rules : TreeRules) → IsSpot rules s.now → ComesTo rules s.now (position s.now) result }
+    {
+        let alloc = s.allocator();
+        Detour {
+            kept: s.level(),
+            sides: SmallVec::new(alloc),
+            states: SmallVec::new(alloc),
+            spin: s.spin(),
+        }
+    }
+
+    /// Whether the name of the place has more than 4,000 sides.
+    fn is_deep(&self, s: &Spot) -> bool
+        requires { IsShaped s.now self.now }
+        ensures { IsTrue result ↔ (DEEPEST < length (there s.now self.now).name) }
+    {
+        self.kept > DEEPEST || self.sides.len() > DEEPEST - self.kept
+    }
+
+    fn state(&self, s: &Spot) -> u32
+        requires { IsShaped s.now self.now }
+        ensures { (rules : TreeRules) → IsDetour rules s.now self.now → result ≡ tile_state rules (spot_there s.now self.now) }
+    {
+        match self.states.as_slice().last() {
+            Some(state) => *state,
+            None => s.path()[self.kept],
+        }
+    }
+
+    fn rule(&self, s: &Spot, r: &Rules) -> Rule
+        requires { IsDetour r.now s.now self.now }
+        ensures { result ≡ faced_rule r.now (spot_there s.now self.now) }
+    {
+        let _ = r.automaton();
+        rule(r, self.state(s), self.spin)
+    }
+
+    fn turn(&mut self, s: &Spot, r: &Rules, leftwards: bool)
+        requires { IsDetour r.now s.now self.old }
+        ensures { ComesTo r.now s.now (turned r.now.kinds r.now.automaton (root_kind r.now s.now) leftwards (there s.now self.old)) self.new }
+    {
+        let _ = r.automaton();
+        self.spin = beside(r, self.state(s), self.spin, leftwards);
+    }
+
+    fn down(&mut self, child: u32) -> Result<(), AllocError>
+        ensures kept { OnOk result (self.new.kept ≡ self.old.kept) }
+        ensures sides { OnOk result (self.new.sides.items ≡ self.old.sides.items ++ self.old.spin ∷ []) }
+        ensures states { OnOk result (self.new.states.items ≡ self.old.states.items ++ child ∷ []) }
+        ensures spin { OnOk result (self.new.spin ≡ 0) }
+    {
+        self.sides.push(self.spin)?;
+        self.states.push(child)?;
+        self.spin = 0;
+        Ok(())
+    }
+
+    fn up(&mut self, s: &Spot)
+        requires shape { IsShaped s.now self.old }
+        requires no_root { (there s.now self.old).name ≢ [] }
+        ensures shape { IsShaped s.now self.new }
+        ensures above { IsAbove (spot_there s.now self.new) (spot_there s.now self.old) }
+    {
+        if let Some(side) = self.sides.pop() {
+            self.states.pop();
+            self.spin = side;
+            return;
+        }
+        self.kept -= 1;
+        self.spin = s.name().sides()[self.kept];
+    }
+
+    /// The rank of the corner at the inner end of the faced side. It bounds how many brackets can be open on the way from there.
+    fn inner_rank(&self, s: &Spot, r: &Rules, leftwards: bool) -> u32
+        requires { IsDetour r.now s.now self.now }
+        ensures { result ≡ rank r.now.automaton (inner_corner r.now.kinds r.now.automaton (root_kind r.now s.now) leftwards (there s.now self.now)) }
+    {
+        let _ = r.automaton();
+        let state = self.state(s);
+        if leftwards {
+            corner_rank(r, state, self.spin)
+        } else {
+            corner_rank(r, state, next_right(r, state, self.spin))
+        }
+    }
+
+    /// On the way from here, in this direction, the counter of open brackets stays below the bound of the weight, which is small.
+    fn counter_fits(&self, s: &Spot, r: &Rules, leftwards: bool)
+        requires { IsDetour r.now s.now self.now }
+        ensures { bound r.now.kinds r.now.automaton (root_kind r.now s.now) leftwards (there s.now self.now) < 2 ^ 127 }
+    {
+        let _ = r.automaton();
+        let _rank = self.inner_rank(s, r, leftwards);
+        let _level = s.level();
+        let _entered = self.sides.len();
+    }
+
+    /// One move along the contour: a turn, and then across a side of the tree, or past a bracket, which is counted. It answers whether no
+    /// bracket is left open.
+    fn go_on(&mut self, s: &Spot, r: &Rules, leftwards: bool, brackets: &mut u128) -> Result<bool, AllocError>
+        requires detour { IsDetour r.now s.now self.old }
+        requires some { 1 ≤ brackets.old }
+        requires few { brackets.old < 2 ^ 127 }
+        ensures { IfOk result (λ done. HasMoved r.now s.now leftwards self.old brackets.old done self.new brackets.new) }
+    {
+        let _ = r.automaton();
+        self.turn(s, r, leftwards);
+        match self.rule(s, r) {
+            Rule::Parent => {
+                self.up(s);
+                Ok(false)
+            }
+            Rule::Child(child) => {
+                self.down(child)?;
+                Ok(false)
+            }
+            Rule::Left => Ok(is_last(leftwards, brackets)),
+            Rule::Right => Ok(is_last(!leftwards, brackets)),
+        }
+    }
+
+    /// Along the contour, from a bracket that opens in this direction to the one that closes it.
+    fn contour(&mut self, s: &Spot, r: &Rules, leftwards: bool) -> Result<(), AllocError>
+        requires detour { IsDetour r.now s.now self.old }
+        requires opens { mark_towards r.now.kinds r.now.automaton (root_kind r.now s.now) leftwards (there s.now self.old) ≡ Opens }
+        ensures { OnOk result (HasCrossed r.now s.now self.old self.new) }
+    {
+        let _ = r.automaton();
+        self.counter_fits(s, r, leftwards);
+        let mut brackets: u128 = 1;
+        while !self.go_on(s, r, leftwards, &mut brackets)? {}
+        Ok(())
+    }
+
+    /// Across the faced side, at whatever depth.
+    fn arrive(&mut self, s: &Spot, r: &Rules) -> Result<(), AllocError>
+        requires { IsDetour r.now s.now self.old }
+        ensures { OnOk result (HasCrossed r.now s.now self.old self.new) }
+    {
+        let _ = r.automaton();
+        match self.rule(s, r) {
+            Rule::Parent => {
+                self.up(s);
+                Ok(())
+            }
+            Rule::Child(child) => {
+                self.down(child)?;
+                Ok(())
+            }
+            Rule::Left => self.contour(s, r, true),
+            Rule::Right => self.contour(s, r, false),
+        }
+    }
+
+    /// Across the faced side, to a name of at most 4,000 sides.
+    pub(crate) fn cross(&mut self, s: &Spot, r: &Rules) -> Result<(), StepFault>
+        requires { IsDetour r.now s.now self.old }
+        ensures crossed { OnOk result (HasCrossed r.now s.now self.old self.new) }
+        ensures near { OnOk result (length (there s.now self.new).name ≤ DEEPEST) }
+        ensures deep { IsErrOf result StepFault.Deep → IsDeepAcross r.now (root_kind r.now s.now) (there s.now self.old) DEEPEST }
+    {
+        self.arrive(s, r)?;
+        if self.is_deep(s) {
+            return Err(StepFault::Deep);
+        }
+        Ok(())
+    }
+
+    /// On by one letter.
+    pub(crate) fn step(&mut self, s: &Spot, r: &Rules, x: Letter) -> Result<(), StepFault>
+        requires { IsDetour r.now s.now self.old }
+        ensures stepped { OnOk result (HasStepped r.now s.now self.old x DEEPEST self.new) }
+        ensures only_crossings { IsErrOf result StepFault.Deep → x ≡ Letter.X }
+        ensures deep { IsErrOf result StepFault.Deep → IsDeepAcross r.now (root_kind r.now s.now) (there s.now self.old) DEEPEST }
+    {
+        match x {
+            Letter::L => {
+                self.turn(s, r, true);
+                Ok(())
+            }
+            Letter::R => {
+                self.turn(s, r, false);
+                Ok(())
+            }
+            Letter::X => self.cross(s, r),
+        }
+    }
+
+    /// Moves the spot to where the detour has come.
+    pub(crate) fn finish(&self, s: &mut Spot, r: &Rules) -> Result<(), AllocError>
+        requires { IsDetour r.now s.old self.now }
+        ensures there { OnOk result (s.new ≡ spot_there s.old self.now) }
+        ensures unchanged { OnErr result (s.new ≡ s.old) }
+    {
+        let _ = r.automaton();
+        s.rejoin(self.kept, self.sides.as_slice(), self.states.as_slice(), self.spin)
+    }
+}
+
+/// The side next to a side, in one of the directions.
+fn beside(r: &Rules, state: u32, side: u8, leftwards: bool) -> u8
+    requires state { state < length r.now.automaton.states }
+    requires side { side < side_count r.now.kinds r.now.automaton state }
+    ensures left { leftwards ≡ true → result ≡ next (side_count r.now.kinds r.now.automaton state) side }
+    ensures right { leftwards ≡ false → result ≡ previous (side_count r.now.kinds r.now.automaton state) side }
+{
+    if leftwards {
+        next_left(r, state, side)
+    } else {
+        next_right(r, state, side)
+    }
+}
+
+/// Counts a bracket that opens or closes. It answers whether none is left open.
+fn is_last(opens: bool, brackets: &mut u128) -> bool
+    requires some { 1 ≤ brackets.old }
+    requires few { brackets.old < 2 ^ 127 }
+    ensures opened { opens ≡ true → (result ≡ false) × (brackets.new ≡ brackets.old + 1) }
+    ensures closed { opens ≡ false → (result ≡ nat_eq brackets.new 0) × (brackets.new + 1 ≡ brackets.old) }
+{
+    if opens {
+        *brackets += 1;
+        return false;
+    }
+    *brackets -= 1;
+    *brackets == 0
+}

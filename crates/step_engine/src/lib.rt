@@ -1,0 +1,9 @@
+//! Turns, crossings and walks of spots in the tree of accepted rules.
+#![tactic(auto)]
+
+mod detour;
+mod fault;
+mod steps;
+
+pub use fault::{DEEPEST, StepFault};
+pub use steps::{cross, root_spot, spot_walk, turn_left, turn_right, walk};

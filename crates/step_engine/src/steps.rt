@@ -1,0 +1,116 @@
+//! Turns, crossings and walks of spots.
+ghost use Rattle.std.specs.Prelude.{◌≡◌, ◌<◌, ◌≤◌, ◌⊎◌, ℕ, List, ◌++◌, replicate, length, IfOk, OnOk, OnErr, IsErrOf};
+ghost use Rattle.tile_model.specs.declared.Letter.TheVariants.{L};
+ghost use Rattle.tree_model.specs.Automata.{next, previous};
+ghost use Rattle.tree_model.specs.Positions.{Position, root};
+ghost use Rattle.tree_model.specs.Places.{position_word};
+ghost use Rattle.turn_rules.specs.Spots.{IsSpot, IsAt, position, root_kind, tile_sides};
+ghost use Rattle.step_engine.specs.Crossings.{IsAcross, LeadsTo, CrossesDeep, WalksDeep};
+
+use crate::detour::Detour;
+use crate::fault::{DEEPEST, StepFault};
+use std::alloc::{AllocError, Global};
+use structure_check::Rules;
+use turn_rules::{Spot, next_left, next_right};
+use walk_words::{Letter, Walk};
+
+/// Side 0 of the root of a kind, which is one of the tessellation.
+pub fn root_spot(alloc: Global, r: &Rules, kind: u8) -> Result<Spot, AllocError>
+    requires { kind < length r.now.kinds }
+    ensures { IfOk result (λ s. IsAt r.now kind root s) }
+{
+    Spot::root(alloc, r, kind)
+}
+
+/// Faces the side to the left. The name stays.
+pub fn turn_left(s: &mut Spot, r: &Rules)
+    requires { IsSpot r.now s.old }
+    ensures spot { IsSpot r.now s.new }
+    ensures spin { s.new ≡ record { name = s.old.name; path = s.old.path; spin = next (tile_sides r.now s.old) s.old.spin } }
+{
+    let _ = r.automaton();
+    let side = next_left(r, s.state(), s.spin());
+    s.face(r, side);
+}
+
+/// Faces the side to the right. The name stays.
+pub fn turn_right(s: &mut Spot, r: &Rules)
+    requires { IsSpot r.now s.old }
+    ensures spot { IsSpot r.now s.new }
+    ensures spin { s.new ≡ record { name = s.old.name; path = s.old.path; spin = previous (tile_sides r.now s.old) s.old.spin } }
+{
+    let _ = r.automaton();
+    let side = next_right(r, s.state(), s.spin());
+    s.face(r, side);
+}
+
+/// Goes across the faced side, to the side that lies there. `Deep` comes exactly where the tile there has a name of more than 4,000 sides.
+/// After an error the spot is as it was. It takes time in proportion to the contour between the two sides.
+pub fn cross(s: &mut Spot, r: &Rules) -> Result<(), StepFault>
+    requires { IsSpot r.now s.old }
+
+    // The spot stands across, in the same tree. No other position lies there.
+    ensures spot { OnOk result (IsSpot r.now s.new) }
+    ensures tree { OnOk result (root_kind r.now s.new ≡ root_kind r.now s.old) }
+    ensures across { OnOk result (IsAcross r.now s.old (position s.new)) }
+    ensures only { (q : Position) → IsAcross r.now s.old q → OnOk result (position s.new ≡ q) }
+
+    // Deep comes for this reason alone, and comes then unless memory runs out.
+    ensures deep { IsErrOf result StepFault.Deep → CrossesDeep r.now s.old DEEPEST }
+    ensures too_deep { CrossesDeep r.now s.old DEEPEST → IsErrOf result StepFault.Deep ⊎ IsErrOf result StepFault.Memory }
+    ensures unchanged { OnErr result (s.new ≡ s.old) }
+{
+    let _ = r.automaton();
+    let mut detour = Detour::start(s);
+    detour.cross(s, r)?;
+    detour.finish(s, r)?;
+    Ok(())
+}
+
+/// Goes by the letters of a walk in turn. `Deep` comes exactly where some crossing on the way arrives at a name of more than 4,000 sides.
+/// After an error the spot is as it was.
+pub fn walk(s: &mut Spot, r: &Rules, w: &Walk) -> Result<(), StepFault>
+    requires { IsSpot r.now s.old }
+
+    // The spot stands where the walk leads, in the same tree. It leads to no other position.
+    ensures spot { OnOk result (IsSpot r.now s.new) }
+    ensures tree { OnOk result (root_kind r.now s.new ≡ root_kind r.now s.old) }
+    ensures leads { OnOk result (LeadsTo r.now s.old w.now (position s.new)) }
+    ensures only { (q : Position) → LeadsTo r.now s.old w.now q → OnOk result (position s.new ≡ q) }
+
+    // Deep comes for this reason alone, and comes then unless memory runs out.
+    ensures deep { IsErrOf result StepFault.Deep → WalksDeep r.now s.old w.now DEEPEST }
+    ensures too_deep { WalksDeep r.now s.old w.now DEEPEST → IsErrOf result StepFault.Deep ⊎ IsErrOf result StepFault.Memory }
+    ensures unchanged { OnErr result (s.new ≡ s.old) }
+{
+    let _ = r.automaton();
+    let mut detour = Detour::start(s);
+    for x in w.letters() {
+        detour.step(s, r, *x)?;
+    }
+    detour.finish(s, r)?;
+    Ok(())
+}
+
+/// The word of the spot: for each side of the name that many letters L and then X, and at last as many letters L as its spin is.
+pub fn spot_walk(alloc: Global, s: &Spot) -> Result<Walk, AllocError>
+    ensures { IfOk result (λ w. w ≡ position_word (position s.now)) }
+{
+    let mut walk = Walk::new(alloc);
+    for side in s.name().sides() {
+        push_lefts(&mut walk, *side)?;
+        walk.push(Letter::X)?;
+    }
+    push_lefts(&mut walk, s.spin())?;
+    Ok(walk)
+}
+
+/// Adds that many letters L.
+fn push_lefts(walk: &mut Walk, count: u8) -> Result<(), AllocError>
+    ensures { OnOk result (walk.new ≡ walk.old ++ replicate count L) }
+{
+    for turn in 0..count {
+        walk.push(Letter::L)?;
+    }
+    Ok(())
+}
