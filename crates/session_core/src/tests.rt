@@ -102,7 +102,7 @@ fn a_walker_goes_round_a_corner(rt: HostRuntime) -> Result<(), Fail> {
     let Reply::At { name, spin, kind } = session.apply(&Command::At(0))? else {
         panic!(rt; "no place");
     };
-    assert_eq!(rt; name.sides(), &[0, 4]);
+    assert_eq!(rt; name.sides(), [0, 4].as_slice());
     assert_eq!(rt; (spin, kind), (4, 0));
     assert!(rt; matches!(session.apply(&out)?, Reply::Done));
     let Reply::At { name, spin, kind } = session.apply(&Command::At(0))? else {
