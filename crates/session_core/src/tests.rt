@@ -1,4 +1,7 @@
 // Two streams of commands over pentagons, four at a corner, with the replies that are known from outside.
+ghost use Rattle.std.specs.Prelude.{◌≤◌, length, IsTrue};
+ghost use Rattle.session_core.specs.Sessions.{HasNumbers};
+
 use crate::Session;
 use reply_model::{Command, Reply};
 use rules_data::Rule::{Child, Left, Parent, Right};
@@ -67,48 +70,89 @@ fn walk(alloc: Global, letters: &[Letter]) -> Result<Walk, AllocError> {
     Ok(walk)
 }
 
-#[test]
-fn two_walkers_meet_on_one_tile(rt: HostRuntime) -> Result<(), Fail> {
-    let alloc = rt.alloc();
-    let Some(rules) = pentagons(alloc)? else {
-        panic!(rt; "no rules");
-    };
-    assert_eq!(rt; rules.tessellation().kinds(), 1);
-    let mut session = Session::new(alloc, &rules, 0)?;
-    let first = walk(alloc, &[L, X])?;
-    let second = walk(alloc, &[X, R, X, R, X])?;
-    assert!(rt; matches!(session.apply(&Command::New(0))?, Reply::Done));
-    assert!(rt; matches!(session.apply(&Command::New(1))?, Reply::Done));
-    assert!(rt; matches!(session.apply(&Command::Go(0, first))?, Reply::Done));
-    assert!(rt; matches!(session.apply(&Command::Go(1, second))?, Reply::Done));
-    assert!(rt; matches!(session.apply(&Command::Same(0, 1))?, Reply::Yes));
-    assert!(rt; matches!(session.apply(&Command::Same(0, 0))?, Reply::Yes));
-    assert!(rt; matches!(session.apply(&Command::New(0))?, Reply::Taken));
-    assert!(rt; matches!(session.apply(&Command::At(2))?, Reply::NoWalker));
-    Ok(())
+// Two walkers that meet on one tile by two ways, and what is refused.
+fn meeting(alloc: Global) -> Result<Vec<(Command, &'static str)>, AllocError> {
+    let mut stream = Vec::new(alloc);
+    stream.push((Command::New(0), "ok"))?;
+    stream.push((Command::New(1), "ok"))?;
+    stream.push((Command::Go(0, walk(alloc, &[L, X])?), "ok"))?;
+    stream.push((Command::Go(1, walk(alloc, &[X, R, X, R, X])?), "ok"))?;
+    stream.push((Command::Same(0, 1), "yes"))?;
+    stream.push((Command::Same(0, 0), "yes"))?;
+    stream.push((Command::New(0), "taken"))?;
+    stream.push((Command::At(2), "no walker"))?;
+    Ok(stream)
+}
+
+// A walker that goes round a corner, and comes back by brackets.
+fn around(alloc: Global) -> Result<Vec<(Command, &'static str)>, AllocError> {
+    let mut stream = Vec::new(alloc);
+    stream.push((Command::New(0), "ok"))?;
+    stream.push((Command::Go(0, walk(alloc, &[L, X, L, X])?), "ok"))?;
+    stream.push((Command::At(0), "at 0.4 4 0"))?;
+    stream.push((Command::Go(0, walk(alloc, &[L, X, L, X])?), "ok"))?;
+    stream.push((Command::At(0), "at - 0 0"))?;
+    Ok(stream)
+}
+
+fn has_numbers(c: &Command) -> bool
+    ensures { IsTrue result → HasNumbers c.now }
+{
+    match c {
+        Command::New(w) => *w < 64,
+        Command::Go(w, _) => *w < 64,
+        Command::At(w) => *w < 64,
+        Command::Same(w, v) => *w < 64 && *v < 64,
+    }
+}
+
+fn text(x: &Reply) -> &'static str {
+    match x {
+        Reply::Done => "ok",
+        Reply::Yes => "yes",
+        Reply::No => "no",
+        Reply::NoWalker => "no walker",
+        Reply::Taken => "taken",
+        Reply::Deep => "deep",
+        Reply::At { name, spin, kind } => place(name.sides(), *spin, *kind),
+    }
+}
+
+fn place(sides: &[u8], spin: u8, kind: u8) -> &'static str {
+    if sides == [0, 4].as_slice() && spin == 4 && kind == 0 {
+        return "at 0.4 4 0";
+    }
+    if sides.is_empty() && spin == 0 && kind == 0 {
+        return "at - 0 0";
+    }
+    "elsewhere"
+}
+
+// The place in the stream of the first reply that is not the one wanted.
+fn first_wrong(
+    alloc: Global,
+    rules: &Rules,
+    stream: &[(Command, &'static str)],
+) -> Result<Option<usize>, AllocError>
+    requires { 1 ≤ length rules.now.kinds }
+{
+    let mut session = Session::new(alloc, rules, 0)?;
+    for (place, event) in stream.iter().enumerate() {
+        if !has_numbers(&event.0) || text(&session.apply(&event.0)?) != event.1 {
+            return Ok(Some(place));
+        }
+    }
+    Ok(None)
 }
 
 #[test]
-fn a_walker_goes_round_a_corner(rt: HostRuntime) -> Result<(), Fail> {
+fn walkers_answer(rt: HostRuntime) -> Result<(), Fail> {
     let alloc = rt.alloc();
     let Some(rules) = pentagons(alloc)? else {
         panic!(rt; "no rules");
     };
     assert_eq!(rt; rules.tessellation().kinds(), 1);
-    let mut session = Session::new(alloc, &rules, 0)?;
-    assert!(rt; matches!(session.apply(&Command::New(0))?, Reply::Done));
-    let out = Command::Go(0, walk(alloc, &[L, X, L, X])?);
-    assert!(rt; matches!(session.apply(&out)?, Reply::Done));
-    let Reply::At { name, spin, kind } = session.apply(&Command::At(0))? else {
-        panic!(rt; "no place");
-    };
-    assert_eq!(rt; name.sides(), [0, 4].as_slice());
-    assert_eq!(rt; (spin, kind), (4, 0));
-    assert!(rt; matches!(session.apply(&out)?, Reply::Done));
-    let Reply::At { name, spin, kind } = session.apply(&Command::At(0))? else {
-        panic!(rt; "no place");
-    };
-    assert!(rt; name.is_empty());
-    assert_eq!(rt; (spin, kind), (0, 0));
+    assert_eq!(rt; first_wrong(alloc, &rules, &meeting(alloc)?)?, None);
+    assert_eq!(rt; first_wrong(alloc, &rules, &around(alloc)?)?, None);
     Ok(())
 }
