@@ -1,0 +1,151 @@
+-- What stands between the commands that make and move walkers can be left out of a history: walkers and walks stay. So histories with the
+-- same of these commands have the same walkers and walks.
+use Rattle.std.proofs.Common.{◌≡◌, ℕ, ◌<◌, ◌⊎◌, inl, inr, List, [], ◌∷◌, ◌++◌, length, refl, sym, ap, ◌∙◌, subst, append_assoc, append-nil, ⊎_elim}
+use Rattle.std.specs.Prelude.{Contains}
+use Rattle.std.proofs.lemmas.List.Elements.{Contains-append_left, Contains-append_right, Contains-append_cases}
+use Rattle.tile_model.specs.Tessellations.{TileKind}
+use Rattle.tile_model.specs.Validity.{IsValid}
+use Rattle.tree_model.specs.Automata.{TreeAutomaton}
+use Rattle.tree_model.specs.Conditions.{IsAccepted}
+use Rattle.reply_model.specs.declared.Command.{Command}
+use Rattle.reply_model.specs.declared.Command.TheVariants.{New, Go, At, Same}
+use Rattle.reply_model.specs.declared.Reply.{Reply}
+use Rattle.reply_model.specs.declared.Reply.TheVariants.{Done}
+use Rattle.reply_model.specs.Histories.{Exists, letters_for, walk_of}
+use Rattle.reply_model.specs.Readings.{IsTreeReply}
+use Rattle.session_core.specs.Sessions.{AreDue}
+use Rattle.session_core.specs.Laws.{as_move, moves, RepliesAreOne, InterleavingsAgree}
+use Rattle.session_core.proofs.Events.{Event, only_itself}
+use Rattle.session_core.proofs.Answering.{due_alike, due_push, one_reply}
+
+-- the event alone where its command makes or moves a walker, else nothing
+abbrev kept : Command → Reply → List Event
+kept (New w) x = (New w, x) ∷ []
+kept (Go w u) x = (Go w u, x) ∷ []
+kept (At w) x = []
+kept (Same w v) x = []
+
+abbrev pruned : List Event → List Event
+pruned [] = []
+pruned (e ∷ h) = kept e.0 e.1 ++ pruned h
+
+abbrev commands : List Event → List Command
+commands [] = []
+commands (e ∷ h) = e.0 ∷ commands h
+
+abbrev first_command : Command → List Command → Command
+first_command d [] = d
+first_command d (c ∷ l) = c
+
+abbrev other_commands : List Command → List Command
+other_commands [] = []
+other_commands (c ∷ l) = l
+
+walk_kept : (c : Command) (x : Reply) (h g : List Event) (w : ℕ) → walk_of h w ≡ walk_of g w → walk_of (kept c x ++ h) w ≡ letters_for w c x ++ walk_of g w
+walk_kept (New v) x h g w e = e
+walk_kept (Go v u) x h g w e = ap (λ l. letters_for w (Go v u) x ++ l) e
+walk_kept (At v) x h g w e = e
+walk_kept (Same v i) x h g w e = e
+
+walk_pruned : (h : List Event) (w : ℕ) → walk_of (pruned h) w ≡ walk_of h w
+walk_pruned [] w = refl
+walk_pruned (e ∷ h) w = walk_kept e.0 e.1 (pruned h) h w (walk_pruned h w)
+
+-- an event in front, before and behind a change of what follows
+follow : (e f : Event) (h g : List Event) → (Contains h f → Contains g f) → Contains (e ∷ h) f → Contains (e ∷ g) f
+follow e f h g s x = ⊎_elim (λ y. Contains-append_left (e ∷ []) g f y) (λ y. Contains-append_right (e ∷ []) g f (s y)) (Contains-append_cases (e ∷ []) h f x)
+
+behind : (e f : Event) (h g : List Event) → (Contains h f → Contains g f) → Contains h f → Contains (e ∷ g) f
+behind e f h g s x = Contains-append_right (e ∷ []) g f (s x)
+
+left_out : (e f : Event) (h g : List Event) → (e ≡ f → ⊥) → (Contains h f → Contains g f) → Contains (e ∷ h) f → Contains g f
+left_out e f h g n s x = ⊎_elim (λ y. absurd (n (only_itself e f y))) s (Contains-append_cases (e ∷ []) h f x)
+
+kept_holds : (c : Command) (x : Reply) (h g : List Event) (w : ℕ) → (Exists h w → Exists g w) → Exists (kept c x ++ h) w → Exists ((c, x) ∷ g) w
+kept_holds (New v) x h g w s = follow (New v, x) (New w, Done) h g s
+kept_holds (Go v u) x h g w s = follow (Go v u, x) (New w, Done) h g s
+kept_holds (At v) x h g w s = behind (At v, x) (New w, Done) h g s
+kept_holds (Same v i) x h g w s = behind (Same v i, x) (New w, Done) h g s
+
+not_new_at : (v w : ℕ) → At v ≡ New w → ⊥
+not_new_at v w e = absurd (cc)
+
+not_new_same : (v i w : ℕ) → Same v i ≡ New w → ⊥
+not_new_same v i w e = absurd (cc)
+
+holds_kept : (c : Command) (x : Reply) (h g : List Event) (w : ℕ) → (Exists h w → Exists g w) → Exists ((c, x) ∷ h) w → Exists (kept c x ++ g) w
+holds_kept (New v) x h g w s = follow (New v, x) (New w, Done) h g s
+holds_kept (Go v u) x h g w s = follow (Go v u, x) (New w, Done) h g s
+holds_kept (At v) x h g w s = left_out (At v, x) (New w, Done) h g (λ e. not_new_at v w (ap (λ (e : Event). e.0) e)) s
+holds_kept (Same v i) x h g w s = left_out (Same v i, x) (New w, Done) h g (λ e. not_new_same v i w (ap (λ (e : Event). e.0) e)) s
+
+pruned_holds : (h : List Event) (w : ℕ) → Exists (pruned h) w → Exists h w
+pruned_holds [] w x = x
+pruned_holds (e ∷ h) w x = kept_holds e.0 e.1 (pruned h) h w (pruned_holds h w) x
+
+holds_pruned : (h : List Event) (w : ℕ) → Exists h w → Exists (pruned h) w
+holds_pruned [] w x = x
+holds_pruned (e ∷ h) w x = holds_kept e.0 e.1 h (pruned h) w (holds_pruned h w) x
+
+pruned_push : (h : List Event) (e : Event) → pruned (h ++ e ∷ []) ≡ pruned h ++ kept e.0 e.1
+pruned_push [] e = append-nil (kept e.0 e.1)
+pruned_push (f ∷ h) e = ap (λ l. kept f.0 f.1 ++ l) (pruned_push h e) ∙ sym (append_assoc (kept f.0 f.1) (pruned h) (kept e.0 e.1))
+
+kept_command : (c : Command) (x : Reply) (h : List Event) (l : List Command) → commands h ≡ l → commands (kept c x ++ h) ≡ as_move c ++ l
+kept_command (New w) x h l e = ap (λ l. New w ∷ l) e
+kept_command (Go w u) x h l e = ap (λ l. Go w u ∷ l) e
+kept_command (At w) x h l e = e
+kept_command (Same w v) x h l e = e
+
+pruned_commands : (h : List Event) → commands (pruned h) ≡ moves h
+pruned_commands [] = refl
+pruned_commands (e ∷ h) = kept_command e.0 e.1 (pruned h) (moves h) (pruned_commands h)
+
+module _ (kinds : List TileKind) (a : TreeAutomaton) (k : ℕ) where
+  due_kept : (c : Command) (x : Reply) (h g : List Event) → AreDue kinds a k g → IsTreeReply kinds a k g c x → h ≡ g ++ kept c x → AreDue kinds a k h
+  due_kept (New w) x h g due d e = subst (AreDue kinds a k) (sym e) (due_push kinds a k g (New w) x due d)
+  due_kept (Go w u) x h g due d e = subst (AreDue kinds a k) (sym e) (due_push kinds a k g (Go w u) x due d)
+  due_kept (At w) x h g due d e = subst (AreDue kinds a k) (sym (e ∙ append-nil g)) due
+  due_kept (Same w v) x h g due d e = subst (AreDue kinds a k) (sym (e ∙ append-nil g)) due
+
+  pruned_due : (before rest : List Event) → AreDue kinds a k (before ++ rest) → AreDue kinds a k (pruned before) → AreDue kinds a k (pruned before ++ pruned rest)
+  pruned_due before [] due done = subst (AreDue kinds a k) (sym (append-nil (pruned before))) done
+  pruned_due before (e ∷ rest) due done =
+      let d : IsTreeReply kinds a k before e.0 e.1 = due before rest e.0 e.1 refl in
+      let d' : IsTreeReply kinds a k (pruned before) e.0 e.1 = due_alike kinds a k before (pruned before) (holds_pruned before) (pruned_holds before) (λ w. sym (walk_pruned before w)) d in
+      let more = due_kept e.0 e.1 (pruned (before ++ e ∷ [])) (pruned before) done d' (pruned_push before e) in
+      let split : before ++ e ∷ rest ≡ (before ++ e ∷ []) ++ rest = sym (append_assoc before (e ∷ []) rest) in
+      let all = pruned_due (before ++ e ∷ []) rest (subst (AreDue kinds a k) split due) more in
+      let same : pruned (before ++ e ∷ []) ++ pruned rest ≡ pruned before ++ (kept e.0 e.1 ++ pruned rest) = ap (λ l. l ++ pruned rest) (pruned_push before e) ∙ append_assoc (pruned before) (kept e.0 e.1) (pruned rest) in
+      subst (AreDue kinds a k) same all
+
+  pub none_due : AreDue kinds a k []
+  none_due before rest c x e = absurd (nothing before rest (c, x) e)
+    where
+      nothing : (l rest : List Event) (f : Event) → [] ≡ l ++ f ∷ rest → ⊥
+      nothing [] rest f q = absurd (cc)
+      nothing (b ∷ l) rest f q = absurd (cc)
+
+module _ (kinds : List TileKind) (a : TreeAutomaton) (k : ℕ) (valid : IsValid kinds) (ok : IsAccepted kinds a) (known : k < length kinds) where
+  -- histories of the same commands are the same
+  same_events : (before h g : List Event) → AreDue kinds a k (before ++ h) → AreDue kinds a k (before ++ g) → commands h ≡ commands g → h ≡ g
+  same_events before [] [] dh dg e = refl
+  same_events before [] (f ∷ g) dh dg e = absurd (cc)
+  same_events before (d ∷ h) [] dh dg e = absurd (cc)
+  same_events before (d ∷ h) (f ∷ g) dh dg e =
+      let command : d.0 ≡ f.0 = ap (first_command d.0) e in
+      let reply : d.1 ≡ f.1 = one_reply kinds a k valid ok known before (dh before h d.0 d.1 refl) (subst (λ c. IsTreeReply kinds a k before c f.1) (sym command) (dg before g f.0 f.1 refl)) in
+      let event : d ≡ f = ap (λ c. (c, d.1)) command ∙ ap (λ x. (f.0, x)) reply in
+      let split_h : before ++ d ∷ h ≡ (before ++ d ∷ []) ++ h = sym (append_assoc before (d ∷ []) h) in
+      let split_g : before ++ f ∷ g ≡ (before ++ d ∷ []) ++ g = sym (append_assoc before (f ∷ []) g) ∙ ap (λ y. (before ++ y ∷ []) ++ g) (sym event) in
+      let rest : h ≡ g = same_events (before ++ d ∷ []) h g (subst (AreDue kinds a k) split_h dh) (subst (AreDue kinds a k) split_g dg) (ap other_commands e) in
+      ap (λ y. y ∷ h) event ∙ ap (λ l. f ∷ l) rest
+
+  pub replies_are_one : RepliesAreOne kinds a k
+  replies_are_one h c x y = one_reply kinds a k valid ok known h
+
+  pub interleavings_agree : InterleavingsAgree kinds a k
+  interleavings_agree h g dh dg e w x d =
+      let same : pruned h ≡ pruned g = same_events [] (pruned h) (pruned g) (pruned_due kinds a k [] h dh (none_due kinds a k)) (pruned_due kinds a k [] g dg (none_due kinds a k)) (pruned_commands h ∙ e ∙ sym (pruned_commands g)) in
+      let there : IsTreeReply kinds a k (pruned h) (At w) x = due_alike kinds a k h (pruned h) (holds_pruned h) (pruned_holds h) (λ w. sym (walk_pruned h w)) d in
+      due_alike kinds a k (pruned g) g (pruned_holds g) (holds_pruned g) (walk_pruned g) (subst (λ l. IsTreeReply kinds a k l (At w) x) same there)

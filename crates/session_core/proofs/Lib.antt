@@ -1,0 +1,7 @@
+pub mod Events
+pub mod Answering
+pub mod Between
+pub mod Steps
+pub mod Depth
+pub mod Standing
+pub mod Going

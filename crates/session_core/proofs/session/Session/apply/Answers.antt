@@ -1,0 +1,26 @@
+use Rattle.session_core.proofs.Going.{answered_due, answered_stands, same_command}
+use Rattle.session_core.proofs.session.Session.apply.Goals as goal
+
+pub returns-in-New-clause-due : goal.returns-in-New-clause-due
+returns-in-New-clause-due c = answered_due _ _ _ _ _ c.in-New.is c.new_walker.ensures.answered
+
+pub returns-in-New-clause-stands : goal.returns-in-New-clause-stands
+returns-in-New-clause-stands c = answered_stands _ _ _ _ _ c.in-New.is c.new_walker.ensures.answered
+
+pub returns-in-Go-clause-due : goal.returns-in-Go-clause-due
+returns-in-Go-clause-due c = answered_due _ _ _ _ _ c.in-Go.is c.go.ensures.answered
+
+pub returns-in-Go-clause-stands : goal.returns-in-Go-clause-stands
+returns-in-Go-clause-stands c = answered_stands _ _ _ _ _ c.in-Go.is c.go.ensures.answered
+
+pub returns-in-At-clause-due : goal.returns-in-At-clause-due
+returns-in-At-clause-due c = answered_due _ _ _ _ _ c.in-At.is c.at.ensures
+
+pub returns-in-At-clause-stands : goal.returns-in-At-clause-stands
+returns-in-At-clause-stands c = answered_stands _ _ _ _ _ c.in-At.is c.at.ensures
+
+pub returns-in-Same-clause-due : goal.returns-in-Same-clause-due
+returns-in-Same-clause-due c = (same_command _ _ _ _ _ c.in-Same.is c.same.ensures).due
+
+pub returns-in-Same-clause-stands : goal.returns-in-Same-clause-stands
+returns-in-Same-clause-stands c = (same_command _ _ _ _ _ c.in-Same.is c.same.ensures).stands

@@ -1,0 +1,174 @@
+//! `Session`: up to 64 walkers in the tree of one kind, and what they answer to commands.
+ghost use Rattle.std.specs.Prelude.{◌≡◌, ◌<◌, ◌↔◌, List, [], ◌∷◌, ◌++◌, length, replicate, None, Some, MatchOption, IfOk, OnErr, IsTrue};
+ghost use Rattle.reply_model.specs.declared.Command.{Command};
+ghost use Rattle.reply_model.specs.declared.Reply.{Reply};
+ghost use Rattle.session_core.specs.Sessions.{SessionState, StandsFor, IsDue, HasNumbers, HasAnswered, walker_at};
+
+use reply_model::{Command, Reply};
+use std::alloc::{AllocError, Global};
+use std::marker::Model;
+use std::mem;
+use step_engine::{StepFault, root_spot, walk};
+use structure_check::Rules;
+use turn_rules::Spot;
+use walk_words::Walk;
+
+/// The number of walkers that there can be.
+const WALKERS: usize = 64;
+
+/// Walkers in the tree of one kind. It borrows the rules.
+#[derive(Debug, Drop)]
+pub struct Session<'r> {
+    rules: &'r Rules,
+    kind: u8,
+    walkers: Vec<Option<Spot>>,
+    spare: Spot,
+}
+
+impl<'r> Model for Session<'r> {
+    ghost use Rattle.session_core.specs.Sessions.{SessionState, IsSession};
+
+    ghost Value = { SessionState };
+
+    ghost view = { λ s. record { rules = s.rules.now; kind = s.kind; walkers = s.walkers.items } };
+
+    ghost invariant = { λ s. IsSession (record { rules = s.rules.now; kind = s.kind; walkers = s.walkers.items }) };
+}
+
+impl<'r> Session<'r> {
+    /// A session without walkers in the tree of a kind, which is one of the tessellation.
+    pub fn new(alloc: Global, rules: &'r Rules, kind: u8) -> Result<Session<'r>, AllocError>
+        requires { kind < length rules.now.kinds }
+        ensures stands { IfOk result (λ s. StandsFor s []) }
+        ensures rules { IfOk result (λ s. s.rules ≡ rules.now) }
+        ensures kind { IfOk result (λ s. s.kind ≡ kind) }
+    {
+        Ok(Session {
+            rules,
+            kind,
+            walkers: no_walkers(alloc)?,
+            spare: root_spot(alloc, rules, kind)?,
+        })
+    }
+
+    /// Does what the command says and answers its reply. The numbers of walkers in the command are below 64. Out of memory all walkers are
+    /// as they were.
+    pub fn apply(&mut self, c: &Command) -> Result<Reply, AllocError>
+        requires { HasNumbers c.now }
+
+        // The reply is the one that is due after each history for which the session stands.
+        ensures due { IfOk result (λ x. (history : List (Command × Reply)) → StandsFor self.old history → IsDue self.old history c.now x) }
+
+        // It stands then for that history followed by the command and its reply, and after want of memory for the same histories as before.
+        ensures stands { IfOk result (λ x. (history : List (Command × Reply)) → StandsFor self.old history → StandsFor self.new (history ++ (c.now, x) ∷ [])) }
+        ensures memory { OnErr result ((history : List (Command × Reply)) → StandsFor self.new history ↔ StandsFor self.old history) }
+        ensures unchanged { OnErr result (self.new ≡ self.old) }
+        ensures rules { self.new.rules ≡ self.old.rules }
+        ensures kind { self.new.kind ≡ self.old.kind }
+    {
+        match c {
+            Command::New(w) => self.new_walker(*w),
+            Command::Go(w, walk) => self.go(*w, walk),
+            Command::At(w) => self.at(*w),
+            Command::Same(w, v) => Ok(self.same(*w, *v)),
+        }
+    }
+
+    /// The spot of walker `w`, if there is this walker.
+    fn spot(&self, w: u8) -> Option<&Spot>
+        requires { w < 64 }
+        ensures { MatchOption result (walker_at self.now w ≡ None) (λ s. walker_at self.now w ≡ Some s.now) }
+    {
+        self.walkers[w as usize].as_ref()
+    }
+
+    /// Makes walker `w`, at the root.
+    fn new_walker(&mut self, w: u8) -> Result<Reply, AllocError>
+        requires { w < 64 }
+        ensures answered { IfOk result (λ x. HasAnswered self.old (Command.New w) x self.new) }
+        ensures unchanged { OnErr result (self.new ≡ self.old) }
+    {
+        let _ = self.rules.automaton();
+        if self.spot(w).is_some() {
+            return Ok(Reply::Taken);
+        }
+        let spot = root_spot(*self.walkers.allocator(), self.rules, self.kind)?;
+        self.walkers[w as usize] = Some(spot);
+        Ok(Reply::Done)
+    }
+
+    /// Walker `w` goes along a walk. It goes on the spare spot, which becomes its own where no crossing lies too deep.
+    fn go(&mut self, w: u8, path: &Walk) -> Result<Reply, AllocError>
+        requires { w < 64 }
+        ensures answered { IfOk result (λ x. HasAnswered self.old (Command.Go w path.now) x self.new) }
+        ensures unchanged { OnErr result (self.new ≡ self.old) }
+    {
+        let _ = self.rules.automaton();
+        let Some(spot) = &mut self.walkers[w as usize] else {
+            return Ok(Reply::NoWalker);
+        };
+        self.spare.copy_from(spot)?;
+        match walk(&mut self.spare, self.rules, path) {
+            Ok(()) => {
+                mem::swap(spot, &mut self.spare);
+                Ok(Reply::Done)
+            }
+            Err(StepFault::Deep) => Ok(Reply::Deep),
+            Err(StepFault::Memory) => Err(AllocError),
+        }
+    }
+
+    /// Where walker `w` stands.
+    fn at(&self, w: u8) -> Result<Reply, AllocError>
+        requires { w < 64 }
+        ensures { IfOk result (λ x. HasAnswered self.now (Command.At w) x self.now) }
+    {
+        let _ = self.rules.automaton();
+        let Some(spot) = self.spot(w) else {
+            return Ok(Reply::NoWalker);
+        };
+        Ok(Reply::At {
+            name: spot.name().copy(*self.walkers.allocator())?,
+            spin: spot.spin(),
+            kind: spot.kind(self.rules),
+        })
+    }
+
+    /// Whether the walkers `w` and `v` stand on one tile.
+    fn same(&self, w: u8, v: u8) -> Reply
+        requires first { w < 64 }
+        requires second { v < 64 }
+        ensures { HasAnswered self.now (Command.Same w v) result self.now }
+    {
+        let _ = self.rules.automaton();
+        let Some(first) = self.spot(w) else {
+            return Reply::NoWalker;
+        };
+        let Some(second) = self.spot(v) else {
+            return Reply::NoWalker;
+        };
+        if are_together(first, second) {
+            Reply::Yes
+        } else {
+            Reply::No
+        }
+    }
+}
+
+/// As many places as there can be walkers, all of them empty.
+fn no_walkers(alloc: Global) -> Result<Vec<Option<Spot>>, AllocError>
+    ensures { IfOk result (λ v. v.items ≡ replicate 64 None) }
+{
+    let mut walkers = Vec::with_capacity(alloc, WALKERS)?;
+    for _place in 0..WALKERS {
+        walkers.push(None)?;
+    }
+    Ok(walkers)
+}
+
+/// Whether two spots stand at tiles of one name.
+fn are_together(first: &Spot, second: &Spot) -> bool
+    ensures { IsTrue result ↔ (first.now.name ≡ second.now.name) }
+{
+    first.name() == second.name()
+}
