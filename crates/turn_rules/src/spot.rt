@@ -86,7 +86,13 @@ impl Spot {
 
     /// Keeps the first `kept` sides of the name, goes on by other sides, each below 64, through these states, and faces a side. Out of
     /// memory the spot is as it was.
-    pub fn rejoin(&mut self, kept: usize, sides: &[u8], states: &[u32], faced: u8) -> Result<(), AllocError>
+    pub fn rejoin(
+        &mut self,
+        kept: usize,
+        sides: &[u8],
+        states: &[u32],
+        faced: u8,
+    ) -> Result<(), AllocError>
         requires kept { kept ≤ length self.old.name }
         requires below { All (λ side. side < 64) sides.now }
         requires states { length states.now ≡ length sides.now }

@@ -62,8 +62,16 @@ impl Answer {
         ensures { IfOk result (λ line. line.items ≡ line_of self.now) }
     {
         match self {
-            Answer::LeadsTo(t) => print_line(alloc, "type", &[u32::from(t.kind), u32::from(t.residue)]),
-            Answer::Accepted { states, corners } => print_line(alloc, "accepted", &[*states, *corners]),
+            Answer::LeadsTo(t) => print_line(
+                alloc,
+                "type",
+                &[u32::from(t.kind), u32::from(t.residue)],
+            ),
+            Answer::Accepted { states, corners } => print_line(
+                alloc,
+                "accepted",
+                &[*states, *corners],
+            ),
             Answer::Usage => print_line(alloc, "usage", &[]),
             Answer::FileFault(Role::Tess) => print_line(alloc, "file fault tess", &[]),
             Answer::FileFault(Role::Rules) => print_line(alloc, "file fault rules", &[]),

@@ -20,7 +20,10 @@ pub enum Form<'a> {
         walk: Walk,
     },
     /// `check TESS RULES`
-    Check { tess: &'a str, rules: &'a str },
+    Check {
+        tess: &'a str,
+        rules: &'a str,
+    },
 }
 
 /// Why words are not read.

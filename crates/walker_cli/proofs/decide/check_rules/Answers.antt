@@ -22,8 +22,8 @@ returns-in-Err-clause-exact g c = λ told words answer ask due.
 pub returns-in-Err-load_rules-clause-due : goal.returns-in-Err-load_rules-clause-due
 returns-in-Err-load_rules-clause-due g c = λ told words ask.
     refusal_due _ c.in-Err-load_rules.refusal (λ answer is.
-        no_rules c.args.tess.now c.args.rules.now c.in-Ok.tess answer ask (c.in-Ok.ensures.ok told)
-        (rules_kept (c.in-Ok.ensures.same told) c.in-Ok.tess c.args.rules.now (Refused answer) (c.in-Err-load_rules.ensures.refused told answer (ap Err is))))
+    no_rules c.args.tess.now c.args.rules.now c.in-Ok.tess answer ask (c.in-Ok.ensures.ok told)
+    (rules_kept (c.in-Ok.ensures.same told) c.in-Ok.tess c.args.rules.now (Refused answer) (c.in-Err-load_rules.ensures.refused told answer (ap Err is))))
 
 pub returns-in-Err-load_rules-clause-exact : goal.returns-in-Err-load_rules-clause-exact
 returns-in-Err-load_rules-clause-exact g c = λ told words answer ask due.

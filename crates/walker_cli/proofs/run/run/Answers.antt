@@ -89,13 +89,13 @@ returns-clause-no_form g c = λ none. inr write_failed
 pub returns-in-Ok-write_piece-clause-type_told : goal.returns-in-Ok-write_piece-clause-type_told
 returns-in-Ok-write_piece-clause-type_told g c = λ told line tells.
     let exactly : ComesExactly (record { words = map string_bytes c.args.words.now; contents = g.F.Files.contents c.args.files.now }) c.status.result (Appends g.O.Sink.tells (g.O.Sink.taken c.args.out.now) (g.O.Sink.taken c.write_piece.new.out)) Done = written _ c.in-Ok.answer c.status.result _ Done tt (c.in-Ok.ensures.due told) (c.in-Ok.ensures.exact told) c.status.ensures
-        (λ out_told. c.in-Ok-write_piece.ensures.whole out_told ∙ ap (λ (l : List ℕ). g.O.Sink.taken c.args.out.now ++ l) (c.deref.ensures.value ∙ c.in-Ok-line.ensures)) in
+    (λ out_told. c.in-Ok-write_piece.ensures.whole out_told ∙ ap (λ (l : List ℕ). g.O.Sink.taken c.args.out.now ++ l) (c.deref.ensures.value ∙ c.in-Ok-line.ensures)) in
     type_row _ line c.status.result (Appends g.O.Sink.tells (g.O.Sink.taken c.args.out.now) (g.O.Sink.taken c.write_piece.new.out)) tells exactly
 
 pub returns-in-Ok-write_piece-clause-rules_accepted : goal.returns-in-Ok-write_piece-clause-rules_accepted
 returns-in-Ok-write_piece-clause-rules_accepted g c = λ told line tells.
     let exactly : ComesExactly (record { words = map string_bytes c.args.words.now; contents = g.F.Files.contents c.args.files.now }) c.status.result (Appends g.O.Sink.tells (g.O.Sink.taken c.args.out.now) (g.O.Sink.taken c.write_piece.new.out)) Done = written _ c.in-Ok.answer c.status.result _ Done tt (c.in-Ok.ensures.due told) (c.in-Ok.ensures.exact told) c.status.ensures
-        (λ out_told. c.in-Ok-write_piece.ensures.whole out_told ∙ ap (λ (l : List ℕ). g.O.Sink.taken c.args.out.now ++ l) (c.deref.ensures.value ∙ c.in-Ok-line.ensures)) in
+    (λ out_told. c.in-Ok-write_piece.ensures.whole out_told ∙ ap (λ (l : List ℕ). g.O.Sink.taken c.args.out.now ++ l) (c.deref.ensures.value ∙ c.in-Ok-line.ensures)) in
     accepted_row _ line c.status.result (Appends g.O.Sink.tells (g.O.Sink.taken c.args.out.now) (g.O.Sink.taken c.write_piece.new.out)) tells exactly
 
 pub returns-in-Ok-write_piece-clause-done : goal.returns-in-Ok-write_piece-clause-done
