@@ -131,6 +131,128 @@ fn heptagons(alloc: Global) -> Result<Option<Rules>, AllocError> {
     Ok(accepted(vec![in alloc; kind(alloc, 7, &[(0, 0)], &[3])?]?, automaton))
 }
 
+// Heptagons and hexagons, three at a corner.
+fn truncated(alloc: Global) -> Result<Option<Rules>, AllocError> {
+    let tables: [(u8, u8, Sides<'_>); 8] = [
+        (
+            0,
+            0,
+            &[
+                (Child(2), 0, 1),
+                (Child(2), 0, 1),
+                (Child(2), 0, 1),
+                (Child(2), 0, 1),
+                (Child(2), 0, 1),
+                (Child(2), 0, 1),
+                (Child(2), 0, 1),
+            ],
+        ),
+        (
+            1,
+            0,
+            &[
+                (Child(6), 0, 1),
+                (Child(3), 0, 1),
+                (Child(6), 0, 1),
+                (Child(3), 0, 1),
+                (Child(6), 0, 1),
+                (Child(3), 0, 1),
+            ],
+        ),
+        (
+            1,
+            0,
+            &[
+                (Parent, 0, 2),
+                (Right, 1, 2),
+                (Right, 0, 1),
+                (Child(3), 0, 1),
+                (Child(7), 1, 1),
+                (Left, 0, 0),
+            ],
+        ),
+        (
+            1,
+            1,
+            &[
+                (Parent, 0, 2),
+                (Right, 1, 2),
+                (Right, 0, 1),
+                (Child(6), 0, 1),
+                (Child(5), 1, 1),
+                (Left, 0, 0),
+            ],
+        ),
+        (
+            1,
+            0,
+            &[
+                (Parent, 0, 2),
+                (Right, 1, 2),
+                (Right, 0, 1),
+                (Child(5), 1, 1),
+                (Left, 0, 0),
+                (Left, 1, 0),
+            ],
+        ),
+        (
+            1,
+            1,
+            &[
+                (Parent, 0, 2),
+                (Right, 1, 2),
+                (Right, 0, 1),
+                (Child(7), 1, 1),
+                (Left, 0, 0),
+                (Left, 1, 0),
+            ],
+        ),
+        (
+            0,
+            0,
+            &[
+                (Parent, 0, 2),
+                (Right, 1, 2),
+                (Right, 0, 1),
+                (Child(2), 0, 1),
+                (Child(2), 0, 1),
+                (Child(4), 1, 1),
+                (Left, 0, 0),
+            ],
+        ),
+        (
+            0,
+            0,
+            &[
+                (Parent, 0, 2),
+                (Right, 1, 2),
+                (Right, 0, 1),
+                (Child(2), 0, 1),
+                (Child(4), 1, 1),
+                (Left, 0, 0),
+                (Left, 1, 0),
+            ],
+        ),
+    ];
+    let mut states = Vec::new(alloc);
+    for (kind, off, sides) in tables {
+        states.push(state(alloc, kind, off, sides)?)?;
+    }
+    let mut corners = Vec::new(alloc);
+    corners.push(corner(alloc, &[0, -1, 0], (1, 1), 1)?)?;
+    corners.push(corner(alloc, &[0, -1, -1], (0, 0), 0)?)?;
+    let automaton = Automaton {
+        states,
+        corners,
+        roots: vec![in alloc; 0, 1]?,
+        scale: 2,
+    };
+    let mut kinds = Vec::new(alloc);
+    kinds.push(kind(alloc, 7, &[(1, 0)], &[3])?)?;
+    kinds.push(kind(alloc, 6, &[(0, 0), (1, 1)], &[3, 3])?)?;
+    Ok(accepted(kinds, automaton))
+}
+
 // Side 0 of the root of kind 0.
 fn start(alloc: Global, r: &Rules) -> Result<Option<Spot>, AllocError>
     ensures { IfOk result (λ found. IfSome found (IsSpot r.now)) }
@@ -198,14 +320,29 @@ fn crosses_by_brackets(rt: HostRuntime) -> Result<(), Fail> {
     Ok(())
 }
 
+// Whether a long walk leads to this side of this tile.
+fn leads_far(
+    alloc: Global,
+    rules: Option<Rules>,
+    seed: u32,
+    sides: &[u8],
+    spin: u8,
+) -> Result<bool, StepFault> {
+    let Some(r) = rules else {
+        return Ok(false);
+    };
+    leads(alloc, &r, &letters(alloc, seed, 300)?, sides, spin)
+}
+
 #[test]
 fn walks_far(rt: HostRuntime) -> Result<(), Fail> {
     let alloc = rt.alloc();
-    let Some(r) = heptagons(alloc)? else {
-        panic!(rt; "refused");
-    };
-    let far = letters(alloc, 3, 300)?;
-    assert!(rt; leads(alloc, &r, &far, &[3, 4, 5, 4, 3, 4], 2)?);
+    let pentagon = [2, 2, 4, 2, 4, 2, 3, 3, 2, 4, 2, 4, 3, 2, 4, 3, 3, 2];
+    assert!(rt; leads_far(alloc, pentagons(alloc)?, 1, &pentagon, 1)?);
+    let heptagon = [3, 4, 5, 4, 3, 4];
+    assert!(rt; leads_far(alloc, heptagons(alloc)?, 3, &heptagon, 2)?);
+    let mixed = [0, 3, 3, 3, 3, 4, 3, 3, 4, 4];
+    assert!(rt; leads_far(alloc, truncated(alloc)?, 1, &mixed, 0)?);
     Ok(())
 }
 
