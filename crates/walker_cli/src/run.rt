@@ -41,6 +41,7 @@ pub fn run<F: Files, I: Source, O: Sink>(
     ensures file_fault { result ≡ Status.FileFault → Rose (F.fetch_faults files.old) (F.fetch_faults files.new) }
     ensures file_fault_line { result ≡ Status.FileFault → (role : Role) × Appends O.tells (O.taken out.old) (O.taken out.new) (line_of (Answer.FileFault role)) }
     ensures write_fault { result ≡ Status.WriteFault → Rose (O.faults out.old) (O.faults out.new) }
+    ensures silent { IsTrue O.tells → result ≡ Status.Memory → O.taken out.new ≡ O.taken out.old }
 
     // What stays.
     ensures kept { IsTrue O.tells → IsPrefix (O.taken out.old) (O.taken out.new) }
