@@ -1,4 +1,4 @@
-use Rattle.std.proofs.Common.{Err, subst, ap, arith, take_all, ◌∙◌}
+use Rattle.std.proofs.Common.{Err, subst, ap, take_all, ◌∙◌}
 use Rattle.step_engine.specs.declared.fault.StepFault.TheVariants.{Deep}
 use Rattle.step_engine.specs.Crossings.{WalksDeep}
 use Rattle.step_engine.proofs.Walks.{same_fault, HasWalked, walked_next, deep_next, walked_only, walked_place}
