@@ -6,7 +6,7 @@ ghost use Rattle.session_core.specs.Sessions.{HasNumbers};
 mod ball;
 mod samples;
 
-use crate::Session;
+use crate::{Session, laws};
 use ball::Ball;
 use reply_model::{Command, Reply};
 use samples::{heptagons, mixed, pentagons, squares, triangles};
@@ -106,6 +106,8 @@ fn walkers_answer(rt: HostRuntime) -> Result<(), Fail> {
         panic!(rt; "no rules");
     };
     assert_eq!(rt; rules.tessellation().kinds(), 1);
+    laws::interleaving(&rules, 0);
+    laws::readings(&rules, 0);
     assert_eq!(rt; first_wrong(alloc, &rules, &meeting(alloc)?)?, None);
     assert_eq!(rt; first_wrong(alloc, &rules, &around(alloc)?)?, None);
     Ok(())
