@@ -1,15 +1,15 @@
 -- The contour, from where it begins to where it ends.
-use Rattle.std.proofs.Common.{◌≡◌, ℕ, suc, ◌+◌, ◌*◌, ◌^◌, ◌<◌, ◌≤◌, Bool, true, false, length, refl, sym, ap, ◌∙◌, subst, arith}
+use Rattle.std.proofs.Common.{◌≡◌, ℕ, suc, ◌^◌, ◌<◌, ◌≤◌, Bool, true, false, length, refl, sym, ap, ◌∙◌, subst, arith}
 use Rattle.std.proofs.lemmas.Nat.{mul-le}
 use Rattle.structure_check.specs.Rules.{TreeRules, AreSound}
 use Rattle.tree_model.specs.Automata.{rank}
-use Rattle.tree_model.specs.Contours.{Mark, Tree, Opens, Closes, mirrored}
+use Rattle.tree_model.specs.Contours.{Mark, Tree, Opens, mirrored}
 use Rattle.tree_model.specs.Positions.{Position, LiesAcross, in_tree, hop, mark}
 use Rattle.turn_rules.specs.Machine.{room}
 use Rattle.turn_rules.specs.Directions.{turned, mark_towards, inner_corner, bound, Runs, left_over}
 use Rattle.turn_rules.specs.Spots.{TreeSpot, root_kind}
 use Rattle.turn_rules.proofs.Runs.{goes_on, ends, tells, counter_most}
-use Rattle.turn_rules.proofs.Contour.{arrives, inner_known}
+use Rattle.turn_rules.proofs.Contour.{arrives}
 use Rattle.step_engine.specs.declared.detour.Detour.{Detour}
 use Rattle.step_engine.specs.Detours.{IsDetour, ComesTo, HasMoved, HasCrossed, there}
 use Rattle.step_engine.proofs.Detours.{at_home, known_home}

@@ -1,19 +1,17 @@
 -- Detours: where they begin, what they read of the tree, and the steps that they take.
-use Rattle.std.proofs.Common.{◌≡◌, ◌≢◌, ℕ, zero, suc, ◌+◌, ◌-◌, ◌<◌, ◌≤◌, Bool, true, false, List, All, [], ◌∷◌, ◌++◌, length, take, slice_index_or, slice_get, Some, None, refl, sym, ap, ap₂, ◌∙◌, subst, arith, append-nil, append_assoc, take_all, length-append, length-take, get_or-append-add, get_or-take, nat_eq}
-use Rattle.std.proofs.lemmas.List.{take_more, same_from_push, length_push}
+use Rattle.std.proofs.Common.{◌≡◌, ◌≢◌, ℕ, zero, suc, ◌+◌, ◌-◌, ◌<◌, ◌≤◌, Bool, true, false, List, All, [], ◌∷◌, ◌++◌, length, take, slice_index_or, refl, sym, ap, ap₂, ◌∙◌, subst, arith, append-nil, append_assoc, take_all, length-append, length-take, get_or-append-add, get_or-take}
+use Rattle.std.proofs.lemmas.List.{take_more, length_push}
 use Rattle.structure_check.specs.Rules.{TreeRules, AreSound}
-use Rattle.tree_model.specs.declared.Rule.{Rule}
-use Rattle.tree_model.specs.declared.Rule.TheVariants.{Parent, Child, Left, Right}
-use Rattle.tree_model.specs.Automata.{TreeAutomaton, state_at, root_at, rule_at, side_count, next, previous}
-use Rattle.tree_model.specs.Contours.{Mark, Tree, Opens, Closes, mirrored}
-use Rattle.tree_model.specs.Names.{IsNameBelow, reached, child_of, state_of}
-use Rattle.tree_model.specs.Positions.{Position, IsPosition, tree_across, mark_of_rule, rule_of, hop, mark, parent, last_side}
+use Rattle.tree_model.specs.declared.Rule.TheVariants.{Parent, Child}
+use Rattle.tree_model.specs.Automata.{state_at, root_at, rule_at, side_count, next, previous}
+use Rattle.tree_model.specs.Names.{IsNameBelow, child_of}
+use Rattle.tree_model.specs.Positions.{Position, IsPosition, tree_across, rule_of, hop, parent, last_side}
 use Rattle.tree_model.proofs.Positions.{make_position, left_position, right_position, parent_up}
-use Rattle.turn_rules.specs.Directions.{turned, mark_towards, Goes}
-use Rattle.turn_rules.specs.Spots.{TreeSpot, IsSpot, IsAt, position, root_kind, tile_state, faced_rule, rejoined}
+use Rattle.turn_rules.specs.Directions.{turned}
+use Rattle.turn_rules.specs.Spots.{TreeSpot, IsSpot, IsAt, position, root_kind, tile_state, faced_rule}
 use Rattle.turn_rules.proofs.Spots.{spot_state, path_length, tile_known, down_is, up_is}
 use Rattle.step_engine.specs.declared.detour.Detour.{Detour}
-use Rattle.step_engine.specs.Detours.{IsShaped, IsDetour, IsAbove, ComesTo, HasMoved, spot_there, there}
+use Rattle.step_engine.specs.Detours.{IsShaped, IsDetour, IsAbove, ComesTo, spot_there, there}
 
 -- a detour that has not left the spot
 pub starts : (r : TreeRules) (s : TreeSpot) (d : Detour) → IsSpot r s → d.kept ≡ length s.name → d.sides.items ≡ [] → d.states.items ≡ [] → d.spin ≡ s.spin → ComesTo r s (position s) d

@@ -1,17 +1,19 @@
 -- Walks of a detour, letter by letter.
 use Rattle.std.specs.Prelude.{Result, Ok, Err, IsErrAnd, IsErrOf}
-use Rattle.std.proofs.Common.{◌≡◌, ◌≢◌, ℕ, suc, ◌+◌, ◌<◌, ◌≤◌, List, [], ◌∷◌, ◌++◌, length, take, drop, slice_index_or, refl, sym, ap, ◌∙◌, subst, arith, append_assoc, take-append-drop}
+use Rattle.std.proofs.Common.{◌≡◌, ℕ, ◌+◌, ◌<◌, ◌≤◌, List, [], ◌∷◌, ◌++◌, length, take, drop, slice_index_or, refl, sym, ap, ◌∙◌, subst, arith, append_assoc, take-append-drop}
 use Rattle.std.proofs.lemmas.List.{take_more, drop_more, same_from_push}
 use Rattle.tile_model.specs.declared.Letter.{Letter}
 use Rattle.tile_model.specs.declared.Letter.TheVariants.{X}
 use Rattle.structure_check.specs.Rules.{TreeRules, AreSound}
-use Rattle.tree_model.specs.Positions.{Position, LiesAcross, Leads, Moves}
+use Rattle.tree_model.specs.Positions.{Position, LiesAcross, Leads, Moves, root}
+use Rattle.tree_model.specs.Places.{IsPlace}
 use Rattle.tree_model.proofs.Names.{LastView, empty, last, last_view}
 use Rattle.turn_rules.specs.Spots.{TreeSpot, IsSpot, position, root_kind}
 use Rattle.turn_rules.proofs.Closure.{across_same}
 use Rattle.turn_rules.proofs.Walking.{leads_append, leads_split, leads_same}
+use Rattle.turn_rules.proofs.Places.{place_leads, leads_place}
 use Rattle.step_engine.specs.declared.detour.Detour.{Detour}
-use Rattle.step_engine.specs.Crossings.{IsAcross, LeadsTo, IsDeepAcross, CrossesDeep, WalksDeep}
+use Rattle.step_engine.specs.Crossings.{IsAcross, LeadsTo, StandsAfter, IsDeepAcross, CrossesDeep, WalksDeep}
 use Rattle.step_engine.specs.Detours.{IsDetour, ComesTo, HasCrossed, HasStepped, spot_there, there}
 
 -- a fault that is handed on is the same
@@ -80,6 +82,15 @@ module _ (r : TreeRules) (sound : AreSound r) (s : TreeSpot) (spot : IsSpot r s)
   -- the only position to which a walk leads
   pub walked_only : (w : List Letter) (most : ℕ) (d : Detour) (t : TreeSpot) → HasWalked r s w most d → t ≡ spot_there s d → (q : Position) → LeadsTo r s w q → position t ≡ q
   walked_only w most d t h e q g = ap position e ∙ leads_same r.kinds r.automaton (root_kind r s) sound.valid sound.accepted spot.known w (position s) (there s d) q h.leads g
+
+  -- the place of a walk before, followed by this one
+  pub walked_place : (u w : List Letter) (most : ℕ) (d : Detour) (t : TreeSpot) → HasWalked r s w most d → t ≡ spot_there s d → StandsAfter r s u → StandsAfter r t (u ++ w)
+  walked_place u w most d t h e b =
+      let before = place_leads r.kinds r.automaton (root_kind r s) sound.valid sound.accepted spot.known u (position s) b in
+      let whole = leads_append r.kinds r.automaton (root_kind r s) u w root (position s) (there s d) before h.leads in
+      let place = leads_place r.kinds r.automaton (root_kind r s) sound.valid sound.accepted spot.known (u ++ w) (there s d) whole in
+      let home : StandsAfter r (spot_there s d) (u ++ w) = subst (λ k. IsPlace r.kinds r.automaton k (u ++ w) (there s d)) (sym h.detour.tree) place in
+      subst (λ x. StandsAfter r x (u ++ w)) (sym e) home
 
   -- the only position across
   pub crossed_only : (d0 d : Detour) (t : TreeSpot) → ComesTo r s (position s) d0 → HasCrossed r s d0 d → t ≡ spot_there s d → (q : Position) → IsAcross r s q → position t ≡ q

@@ -1,9 +1,10 @@
--- What lies across the faced side of a spot, where walks lead from it, and which crossings arrive too deep.
+-- What lies across the faced side of a spot, where walks lead from it, of which walks it is the place, and which crossings arrive too deep.
 use Rattle.std.specs.Prelude.{◌≡◌, ℕ, ◌<◌, List, [], ◌∷◌, ◌++◌, length}
 use Rattle.tile_model.specs.declared.Letter.{Letter}
 use Rattle.tile_model.specs.declared.Letter.TheVariants.{X}
 use Rattle.structure_check.specs.Rules.{TreeRules}
 use Rattle.tree_model.specs.Positions.{Position, LiesAcross, Leads}
+use Rattle.tree_model.specs.Places.{IsPlace}
 use Rattle.turn_rules.specs.Spots.{TreeSpot, position, root_kind}
 
 -- Position q lies across the faced side.
@@ -13,6 +14,10 @@ IsAcross rules s q = LiesAcross rules.kinds rules.automaton (root_kind rules s) 
 -- The walk leads from the spot to position q.
 abbrev pub LeadsTo : TreeRules → TreeSpot → List Letter → Position → Type 0
 LeadsTo rules s walk q = Leads rules.kinds rules.automaton (root_kind rules s) (position s) walk q
+
+-- The spot stands after the walk from side 0 of its root: its position is a place of the walk.
+abbrev pub StandsAfter : TreeRules → TreeSpot → List Letter → Type 0
+StandsAfter rules s walk = IsPlace rules.kinds rules.automaton (root_kind rules s) walk (position s)
 
 -- In the tree of kind k, what lies across position p has a name of more than `most` sides.
 pub record IsDeepAcross (rules : TreeRules) (k : ℕ) (p : Position) (most : ℕ) : Type 0 where

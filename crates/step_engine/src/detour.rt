@@ -34,11 +34,10 @@ impl Detour {
     pub(crate) fn start(s: &Spot) -> Detour
         ensures { (rules : TreeRules) → IsSpot rules s.now → ComesTo rules s.now (position s.now) result }
     {
-        let alloc = s.allocator();
         Detour {
             kept: s.level(),
-            sides: SmallVec::new(alloc),
-            states: SmallVec::new(alloc),
+            sides: s.empty_list(),
+            states: s.empty_list(),
             spin: s.spin(),
         }
     }

@@ -3,6 +3,7 @@
 
 mod detour;
 mod fault;
+pub mod laws;
 mod steps;
 #[cfg(test)]
 mod tests;

@@ -1,11 +1,12 @@
 //! Turns, crossings and walks of spots.
 ghost use Rattle.std.specs.Prelude.{◌≡◌, ◌<◌, ◌≤◌, ◌⊎◌, ℕ, List, ◌++◌, replicate, length, IfOk, OnOk, OnErr, IsErrOf};
+ghost use Rattle.tile_model.specs.declared.Letter.{Letter};
 ghost use Rattle.tile_model.specs.declared.Letter.TheVariants.{L};
 ghost use Rattle.tree_model.specs.Automata.{next, previous};
 ghost use Rattle.tree_model.specs.Positions.{Position, root};
 ghost use Rattle.tree_model.specs.Places.{position_word};
 ghost use Rattle.turn_rules.specs.Spots.{IsSpot, IsAt, position, root_kind, tile_sides};
-ghost use Rattle.step_engine.specs.Crossings.{IsAcross, LeadsTo, CrossesDeep, WalksDeep};
+ghost use Rattle.step_engine.specs.Crossings.{IsAcross, LeadsTo, StandsAfter, CrossesDeep, WalksDeep};
 
 use crate::detour::Detour;
 use crate::fault::{DEEPEST, StepFault};
@@ -77,6 +78,9 @@ pub fn walk(s: &mut Spot, r: &Rules, w: &Walk) -> Result<(), StepFault>
     ensures tree { OnOk result (root_kind r.now s.new ≡ root_kind r.now s.old) }
     ensures leads { OnOk result (LeadsTo r.now s.old w.now (position s.new)) }
     ensures only { (q : Position) → LeadsTo r.now s.old w.now q → OnOk result (position s.new ≡ q) }
+
+    // Where it stood after a walk, it stands after that walk followed by these letters.
+    ensures place { (walk : List Letter) → StandsAfter r.now s.old walk → OnOk result (StandsAfter r.now s.new (walk ++ w.now)) }
 
     // Deep comes for this reason alone, and comes then unless memory runs out.
     ensures deep { IsErrOf result StepFault.Deep → WalksDeep r.now s.old w.now DEEPEST }

@@ -7,6 +7,7 @@ ghost use Rattle.turn_rules.specs.Spots.{IsSpot, IsAt, FacesChild, root_kind, ti
 
 use crate::sides::rule;
 use cell_names::Name;
+use smallvec::SmallVec;
 use std::alloc::{AllocError, Global};
 use std::marker::Model;
 use structure_check::Rules;
@@ -176,8 +177,10 @@ impl Spot {
         r.automaton().state(self.state()).kind
     }
 
-    /// The allocator of the spot's memory.
-    pub fn allocator(&self) -> Global {
-        *self.path.allocator()
+    /// An empty list, which takes the memory that it comes to need from where the spot has its own.
+    pub fn empty_list<T: Default + Drop, const N: usize>(&self) -> SmallVec<T, N>
+        ensures { result.items ≡ [] }
+    {
+        SmallVec::new(*self.path.allocator())
     }
 }

@@ -1,4 +1,4 @@
-use Rattle.std.proofs.Common.{◌≡◌, ◌<◌, ◌∙◌, sym, ap, ap₂, subst, arith, length}
+use Rattle.std.proofs.Common.{◌<◌, ◌∙◌, sym, ap₂, subst, arith, length}
 use Rattle.tree_model.specs.Automata.{next, side_count}
 use Rattle.tree_model.proofs.Sides.{next_below}
 use Rattle.turn_rules.specs.Spots.{tile_sides}

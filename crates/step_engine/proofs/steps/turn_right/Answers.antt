@@ -1,4 +1,4 @@
-use Rattle.std.proofs.Common.{◌≡◌, ◌<◌, ◌∙◌, sym, ap, ap₂, subst, arith, length}
+use Rattle.std.proofs.Common.{◌<◌, sym, subst, length}
 use Rattle.turn_rules.proofs.Spots.{tile_known}
 use Rattle.step_engine.proofs.steps.turn_right.Goals as goal
 

@@ -1,7 +1,7 @@
-use Rattle.std.proofs.Common.{Err, subst, ap, arith, take_all, ◌∙◌}
+use Rattle.std.proofs.Common.{Err, subst, ap, take_all, ◌∙◌}
 use Rattle.step_engine.specs.declared.fault.StepFault.TheVariants.{Deep}
 use Rattle.step_engine.specs.Crossings.{WalksDeep}
-use Rattle.step_engine.proofs.Walks.{same_fault, HasWalked, walked_next, deep_next, walked_only}
+use Rattle.step_engine.proofs.Walks.{same_fault, HasWalked, walked_next, deep_next, walked_only, walked_place}
 use Rattle.step_engine.proofs.steps.walk.Goals as goal
 
 pub returns-in_err-step-clause-deep : goal.returns-in_err-step-clause-deep
@@ -18,3 +18,9 @@ returns-clause-only c = λ q g.
     let whole = take_all c.loop-x.x-index c.letters-x-items.result.now c.loop-x-test.false ∙ c.letters-x-items.ensures in
     let walked = subst (λ u. HasWalked c.args.r.now c.args.s.now u 4000 c.loop-x.detour) whole c.loop-x.invariant in
     walked_only c.args.r.now c.automaton.ensures.sound c.args.s.now c.requires c.args.w.now 4000 c.loop-x.detour c.finish.new.s walked c.in_ok-finish.ensures.there q g
+
+pub returns-clause-place : goal.returns-clause-place
+returns-clause-place c = λ u b.
+    let whole = take_all c.loop-x.x-index c.letters-x-items.result.now c.loop-x-test.false ∙ c.letters-x-items.ensures in
+    let walked = subst (λ v. HasWalked c.args.r.now c.args.s.now v 4000 c.loop-x.detour) whole c.loop-x.invariant in
+    walked_place c.args.r.now c.automaton.ensures.sound c.args.s.now c.requires u c.args.w.now 4000 c.loop-x.detour c.finish.new.s walked c.in_ok-finish.ensures.there b

@@ -1,4 +1,4 @@
-use Rattle.std.proofs.Common.{◌≡◌, ◌∙◌, sym, ap, arith}
+use Rattle.std.proofs.Common.{◌∙◌, sym, ap}
 use Rattle.tree_model.specs.Positions.{mark_of_rule}
 use Rattle.step_engine.proofs.Detours.{has_parent, rule_home, goes_up, goes_down}
 use Rattle.step_engine.proofs.Contours.{tree_crossed}

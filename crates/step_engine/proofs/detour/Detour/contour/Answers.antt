@@ -1,4 +1,4 @@
-use Rattle.std.proofs.Common.{arith, subst, Bool}
+use Rattle.std.proofs.Common.{subst, Bool}
 use Rattle.step_engine.specs.Detours.{HasMoved}
 use Rattle.step_engine.proofs.Contours.{going_start, going_on, going_end}
 use Rattle.step_engine.proofs.detour.Detour.contour.Goals as goal

@@ -1,4 +1,4 @@
-use Rattle.std.proofs.Common.{◌≡◌, ◌<◌, ◌∙◌, Bool, true, false, refl, sym, ap, subst, length}
+use Rattle.std.proofs.Common.{◌≡◌, ◌<◌, ◌∙◌, true, false, refl, sym, ap, subst, length}
 use Rattle.tree_model.specs.Automata.{side_count, next, previous}
 use Rattle.turn_rules.specs.Spots.{tile_state}
 use Rattle.step_engine.specs.Detours.{spot_there}

@@ -1,4 +1,4 @@
-use Rattle.std.proofs.Common.{◌≡◌, ◌≤◌, ◌∙◌, ◌-◌, [], ◌++◌, refl, ap, arith, length, slice_index_or, append-nil}
+use Rattle.std.proofs.Common.{◌≡◌, ◌∙◌, ◌-◌, refl, ap, arith, length, slice_index_or, append-nil}
 use Rattle.step_engine.proofs.Detours.{above_kept, some_kept, nothing_left}
 use Rattle.step_engine.proofs.detour.Detour.up.Goals as goal
 

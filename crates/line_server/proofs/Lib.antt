@@ -1,0 +1,9 @@
+pub mod Cutting
+pub mod Answering
+pub mod Chains
+pub mod Going
+pub mod Keeping
+pub mod LastLine
+pub mod Serving
+pub mod Ends
+pub mod Pieces

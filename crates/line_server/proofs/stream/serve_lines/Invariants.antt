@@ -1,0 +1,18 @@
+-- What was read is answered up to the last line feed, and the count of the bytes is within the limit.
+use Rattle.std.proofs.Common.{◌≡◌, ◌≤◌, ◌-◌}
+use Rattle.line_server.specs.Lines.{most_of_stream}
+use Rattle.line_server.specs.Readers.{IsReader}
+use Rattle.line_server.proofs.Serving.{Serving}
+use Rattle.line_server.proofs.stream.serve_lines.Given as goal
+
+abbrev pub invariant-loop-count : goal.invariant-loop-count
+invariant-loop-count g l = record {
+  shape : IsReader l.reader;
+  serving : Serving g.I.Source.tells g.O.Sink.tells l.initial.session (g.I.Source.left l.initial.input) (g.O.Sink.taken l.initial.out) l.session l.reader (g.I.Source.left l.input) (g.O.Sink.taken l.out) l.total;
+  few : l.total ≤ most_of_stream;
+  unfailing : g.I.Source.faults l.input ≡ g.I.Source.faults l.initial.input;
+  unbroken : g.O.Sink.faults l.out ≡ g.O.Sink.faults l.initial.out;
+}
+
+abbrev pub decreases-loop-count : goal.decreases-loop-count
+decreases-loop-count g l = most_of_stream - l.total

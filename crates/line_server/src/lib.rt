@@ -1,0 +1,11 @@
+//! Streams of bytes, answered line by line by a session.
+#![tactic(auto)]
+
+mod answer;
+mod lines;
+mod reader;
+mod stream;
+#[cfg(test)]
+mod tests;
+
+pub use stream::{Ending, serve};

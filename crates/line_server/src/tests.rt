@@ -1,0 +1,1 @@
+// Streams over sources and sinks in memory.

@@ -1,0 +1,5 @@
+use Rattle.turn_rules.specs.Spots.{IsSpot}
+use Rattle.step_engine.proofs.tests.slow.agree.Given as goal
+
+abbrev pub invariant-loop-x : goal.invariant-loop-x
+invariant-loop-x l = IsSpot l.r l.s

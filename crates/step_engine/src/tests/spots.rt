@@ -1,0 +1,108 @@
+// The steps of a spot in a tree of two kinds of tile, with the names and states that the tables tell.
+ghost use Rattle.std.specs.Prelude.{OnOk};
+ghost use Rattle.turn_rules.specs.Spots.{IsSpot};
+
+use super::builders::{start, truncated};
+use rules_data::Rule;
+use smallvec::SmallVec;
+use std::alloc::{AllocError, Global};
+use std::test::Fail;
+use structure_check::Rules;
+use turn_rules::{Spot, rule, side_count};
+
+// Faces a side of the tile, and goes to the child across it. It answers whether there is one.
+fn enter(s: &mut Spot, r: &Rules, side: u8) -> Result<bool, AllocError>
+    requires { IsSpot r.now s.old }
+    ensures { OnOk result (IsSpot r.now s.new) }
+{
+    let _ = r.automaton();
+    if side >= side_count(r, s.state()) {
+        return Ok(false);
+    }
+    s.face(r, side);
+    let Rule::Child(_) = rule(r, s.state(), s.spin()) else {
+        return Ok(false);
+    };
+    s.down(r)?;
+    Ok(true)
+}
+
+// Goes to the parent. It answers whether there is one.
+fn leave(s: &mut Spot, r: &Rules) -> bool
+    requires { IsSpot r.now s.old }
+    ensures { IsSpot r.now s.new }
+{
+    if s.level() == 0 {
+        return false;
+    }
+    s.up(r);
+    true
+}
+
+// Whether the spot faces this side of the tile of this name, and these are the states on the way to it.
+fn is_at(s: &Spot, sides: &[u8], states: &[u32], spin: u8) -> bool {
+    let tile = s.name().sides() == sides && s.level() == sides.len();
+    let way = s.path() == states && states.last() == Some(&s.state());
+    tile && way && s.spin() == spin
+}
+
+#[test]
+fn enters_and_leaves(rt: HostRuntime) -> Result<(), Fail> {
+    let alloc = rt.alloc();
+    let Some(r) = truncated(alloc)? else {
+        panic!(rt; "refused");
+    };
+    let Some(mut s) = start(alloc, &r)? else {
+        panic!(rt; "no kind");
+    };
+    assert!(rt; is_at(&s, &[], &[0], 0) && s.kind(&r) == 0);
+    assert!(rt; enter(&mut s, &r, 5)?);
+    assert!(rt; is_at(&s, &[5], &[0, 2], 0) && s.kind(&r) == 1);
+    assert!(rt; !enter(&mut s, &r, 1)?);
+    assert!(rt; is_at(&s, &[5], &[0, 2], 1));
+    assert!(rt; enter(&mut s, &r, 3)?);
+    assert!(rt; enter(&mut s, &r, 3)?);
+    assert!(rt; is_at(&s, &[5, 3, 3], &[0, 2, 3, 6], 0) && s.kind(&r) == 0);
+    assert!(rt; leave(&mut s, &r));
+    assert!(rt; is_at(&s, &[5, 3], &[0, 2, 3], 3) && s.kind(&r) == 1);
+    Ok(())
+}
+
+// Whether a spot that becomes equal to another one, far from it, stays there when that one goes on, from the memory of either.
+fn moves_alone(alloc: Global, r: &Rules) -> Result<bool, AllocError> {
+    let (Some(mut s), Some(mut other)) = (start(alloc, r)?, start(alloc, r)?) else {
+        return Ok(false);
+    };
+    let went = enter(&mut s, r, 5)? && enter(&mut s, r, 3)?;
+    other.copy_from(&s)?;
+    let left = leave(&mut s, r);
+    Ok(went && left && is_at(&other, &[5, 3], &[0, 2, 3], 0) && is_at(&s, &[5], &[0, 2], 3))
+}
+
+#[test]
+fn becomes_another(rt: HostRuntime) -> Result<(), Fail> {
+    let alloc = rt.alloc();
+    let Some(r) = truncated(alloc)? else {
+        panic!(rt; "refused");
+    };
+    assert!(rt; moves_alone(alloc, &r)?);
+    Ok(())
+}
+
+#[test]
+fn goes_on_by_other_sides(rt: HostRuntime) -> Result<(), Fail> {
+    let alloc = rt.alloc();
+    let Some(r) = truncated(alloc)? else {
+        panic!(rt; "refused");
+    };
+    let Some(mut s) = start(alloc, &r)? else {
+        panic!(rt; "no kind");
+    };
+    assert!(rt; enter(&mut s, &r, 5)? && enter(&mut s, &r, 3)?);
+    assert!(rt; s.level() >= 1);
+    s.rejoin(1, &[4], &[7], 2)?;
+    assert!(rt; is_at(&s, &[5, 4], &[0, 2, 7], 2));
+    let list: SmallVec<u8, 4> = s.empty_list();
+    assert!(rt; list.is_empty());
+    Ok(())
+}
