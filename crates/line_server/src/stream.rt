@@ -54,6 +54,8 @@ pub fn serve<I: Source, O: Sink>(
     ensures read_cause { result ≡ Ending.ReadFault → Rose (I.faults input.old) (I.faults input.new) }
     ensures write_cause { result ≡ Ending.WriteFault → Rose (O.faults out.old) (O.faults out.new) }
 
+    ensures unbroken { result ≡ Ending.InputTooLong → O.faults out.new ≡ O.faults out.old }
+
     // No byte is lost or doubled, and what was written stays.
     ensures in_order { IsTrue I.tells → GivesInOrder (I.left input.old) (I.left input.new) }
     ensures kept { IsTrue O.tells → TakesMore (O.taken out.old) (O.taken out.new) }
@@ -71,6 +73,7 @@ fn serve_lines<I: Source, O: Sink>(
     ensures ends { EndsAs I.tells O.tells session.old (I.left input.old) (O.taken out.old) session.new (I.left input.new) (O.taken out.new) result }
     ensures read_cause { result ≡ Ending.ReadFault → Rose (I.faults input.old) (I.faults input.new) }
     ensures write_cause { result ≡ Ending.WriteFault → Rose (O.faults out.old) (O.faults out.new) }
+    ensures unbroken { result ≡ Ending.InputTooLong → O.faults out.new ≡ O.faults out.old }
 {
     let Ok(mut reader) = Reader::new(alloc) else {
         return Ending::Memory;

@@ -20,12 +20,14 @@ use Rattle.walker_cli.specs.declared.answer.Role.{Role}
 use Rattle.walker_cli.specs.declared.answer.Role.TheVariants.{Tess, Rules}
 use Rattle.walker_cli.specs.declared.answer.Answer.{Answer}
 use Rattle.walker_cli.specs.declared.answer.Answer.TheVariants.{LeadsTo, Accepted, Usage, FileFault, FileTooLong, TessLine, TessKinds, RulesSyntax, RulesShape, Broken}
+use Rattle.walker_cli.specs.declared.decide.Plan.{Plan}
+use Rattle.walker_cli.specs.declared.decide.Plan.TheVariants.{Say, Serve}
 use Rattle.walker_cli.specs.declared.load.Refusal.{Refusal}
 use Rattle.walker_cli.specs.declared.load.Refusal.TheVariants.{Answered, Failed, Memory}
-use Rattle.walker_cli.specs.Tasks.{Task, TellType, CheckRules, Ask, HaveNoForm, tess_of, LacksKind}
+use Rattle.walker_cli.specs.Tasks.{Task, TellType, CheckRules, RunSession, Ask, HaveNoForm, tess_of, LacksKind}
 use Rattle.walker_cli.specs.Held.{Loaded, Refused, Outcome, Holds, HoldsTooMany, IsTess, IsRules, tess_limit, rules_limit, tess_too_long, tess_line, tess_kinds, tess_loaded, rules_too_long, rules_syntax, rules_shape, rules_broken, rules_loaded}
-use Rattle.walker_cli.specs.Due.{Call, IsDue, no_form, no_tess, no_kind, type_told, no_rules, rules_accepted}
-use Rattle.walker_cli.specs.Loading.{IsRefusedAs, IsOfOutside, IsDueOf, ComesTo, IsFileFault, IsDueOrFailed, Settles}
+use Rattle.walker_cli.specs.Due.{Call, IsDue, Serves, no_form, no_tess, no_kind, type_told, no_rules, rules_accepted, no_session}
+use Rattle.walker_cli.specs.Loading.{IsRefusedAs, IsOfOutside, IsDueOf, ComesTo, ComesToServe, Says, SaysSome, ServesOver, HasKind, IsFileFault, TellsFault, IsDueOrFailed, IsPlanDue, Settles}
 use Rattle.std.specs.declared.alloc.AllocError.{AllocError}
 use Rattle.walk_words.proofs.Codes.{one_walk}
 
@@ -51,6 +53,16 @@ one_task words (TellType tess k walk) (TellType tess' k' walk') one two =
 one_task words (TellType tess k walk) (CheckRules tess' rules') one two = absurd (cc (one.spelled, two))
 one_task words (CheckRules tess rules) (TellType tess' k' walk') one two = absurd (cc (one, two.spelled))
 one_task words (CheckRules tess rules) (CheckRules tess' rules') one two = cc (one, two)
+one_task words (TellType tess k walk) (RunSession tess' k' rules') one two = absurd (cc (one.spelled, two.spelled))
+one_task words (CheckRules tess rules) (RunSession tess' k' rules') one two = absurd (cc (one, two.spelled))
+one_task words (RunSession tess k rules) (TellType tess' k' walk') one two = absurd (cc (one.spelled, two.spelled))
+one_task words (RunSession tess k rules) (CheckRules tess' rules') one two = absurd (cc (one.spelled, two))
+one_task words (RunSession tess k rules) (RunSession tess' k' rules') one two =
+    let same_tess : tess ≡ tess' = cc (one.spelled, two.spelled) in
+    let digits : one.digits ≡ two.digits = cc (one.spelled, two.spelled) in
+    let same_rules : rules ≡ rules' = cc (one.spelled, two.spelled) in
+    let same_kind : k ≡ k' = sym one.number.value ∙ ap (λ (l : List ℕ). digits_value 10 l) digits ∙ two.number.value in
+    cc (same_tess, same_kind, same_rules)
 
 -- what is known of the tessellation that is read from a file, or of the refusal
 pub record TessRead {T : Type 0} (contents : List ℕ → Option (List ℕ)) (file : List ℕ) (view : T → List TileKind) (r : Result T Refusal) : Type 0 where
@@ -93,6 +105,7 @@ kind_row call tess k walk ask (type_told tess' k' walk' kinds other is lt) =
     (kind_told kinds (subst (λ (f : List ℕ). IsTess call.contents f (Loaded kinds)) same_tess is) (subst (λ (n : ℕ). n < length kinds) same_kind lt))
 kind_row call tess k walk ask (no_rules tess' rules kinds answer other is refused) = absurd (cc (one_task call.words (CheckRules tess' rules) (TellType tess k walk) other ask))
 kind_row call tess k walk ask (rules_accepted tess' rules kinds a other is loaded) = absurd (cc (one_task call.words (CheckRules tess' rules) (TellType tess k walk) other ask))
+kind_row call tess k walk ask (no_session tess' k' rules kinds answer other is lt refused) = absurd (cc (one_task call.words (RunSession tess' k' rules) (TellType tess k walk) other ask))
 
 -- the three ways in which telling a type ends
 pub kind_unread : {T : Type 0} (call : Call) (tess : List ℕ) (k : ℕ) (walk : List Letter) (view : T → List TileKind) (refusal : Refusal) → TessRead {T = T} call.contents tess view (Err refusal) → {answer : Answer} → KindRow call tess k walk answer → IsRefusedAs answer refusal
@@ -160,6 +173,7 @@ check_row call tess rules ask (rules_accepted tess' rules' kinds a other is load
     let same_tess : tess' ≡ tess = cc same in
     let same_rules : rules' ≡ rules = cc same in
     check_accepted kinds a (subst (λ (f : List ℕ). IsTess call.contents f (Loaded kinds)) same_tess is) (subst (λ (f : List ℕ). IsRules call.contents kinds f (Loaded a)) same_rules loaded)
+check_row call tess rules ask (no_session tess' k' rules' kinds answer other is lt refused) = absurd (cc (one_task call.words (RunSession tess' k' rules') (CheckRules tess rules) other ask))
 
 -- the three ways in which a check ends
 pub check_unread : {T : Type 0} (call : Call) (tess rules : List ℕ) (view : T → List TileKind) (refusal : Refusal) → TessRead {T = T} call.contents tess view (Err refusal) → {answer : Answer} → CheckRow call tess rules answer → IsRefusedAs answer refusal
@@ -201,38 +215,4 @@ formless call none (no_kind task kinds ask is lacks) = refl
 formless call none (type_told tess k walk kinds ask is lt) = absurd (none (TellType tess k walk) ask)
 formless call none (no_rules tess rules kinds answer ask is refused) = absurd (none (CheckRules tess rules) ask)
 formless call none (rules_accepted tess rules kinds a ask is loaded) = absurd (none (CheckRules tess rules) ask)
-
--- an answer that tells of a file that could not be read comes from such a refusal
-pub settled_fault : (told : Result Answer Refusal) (r : Result Answer AllocError) (P : Type 0) → Settles told r → IfOk told (λ answer. IsFileFault answer → ⊥) → ((answer : Answer) → told ≡ Err (Answered answer) → IsFileFault answer → ⊥) → ((role : Role) → told ≡ Err (Failed role) → P) → IfOk r (λ answer. IsFileFault answer → P)
-settled_fault (Ok answer) r P is plain refused failed = subst (λ (x : Result Answer AllocError). IfOk x (λ a. IsFileFault a → P)) (sym is) (λ fault. absurd (plain fault))
-settled_fault (Err (Answered answer)) r P is plain refused failed = subst (λ (x : Result Answer AllocError). IfOk x (λ a. IsFileFault a → P)) (sym is) (λ fault. absurd (refused answer refl fault))
-settled_fault (Err (Failed role)) r P is plain refused failed = subst (λ (x : Result Answer AllocError). IfOk x (λ a. IsFileFault a → P)) (sym is) (λ fault. failed role refl)
-settled_fault (Err Memory) (Ok answer) P is plain refused failed = absurd (cc is)
-settled_fault (Err Memory) (Err e) P is plain refused failed = tt
-
-due_or_failed : (call : Call) (answer : Answer) → IsDue call answer → IsDueOrFailed call answer
-due_or_failed call (LeadsTo d) due = due
-due_or_failed call (Accepted states corners) due = due
-due_or_failed call Usage due = due
-due_or_failed call (FileFault role) due = tt
-due_or_failed call (FileTooLong role) due = due
-due_or_failed call (TessLine n) due = due
-due_or_failed call (TessKinds fault) due = due
-due_or_failed call RulesSyntax due = due
-due_or_failed call (RulesShape part index) due = due
-due_or_failed call (Broken at) due = due
-
--- an answer that is due comes, unless a file could not be read
-pub settled_due : (call : Call) (told : Result Answer Refusal) (r : Result Answer AllocError) → Settles told r → IsDueOf call told → IfOk told (λ answer. IsFileFault answer → ⊥) → IfOk r (IsDueOrFailed call)
-settled_due call (Ok answer) r is due plain = subst (λ (x : Result Answer AllocError). IfOk x (IsDueOrFailed call)) (sym is) (due_or_failed call answer due)
-settled_due call (Err (Answered answer)) r is due plain = subst (λ (x : Result Answer AllocError). IfOk x (IsDueOrFailed call)) (sym is) (due_or_failed call answer due)
-settled_due call (Err (Failed role)) r is due plain = subst (λ (x : Result Answer AllocError). IfOk x (IsDueOrFailed call)) (sym is) tt
-settled_due call (Err Memory) (Ok answer) is due plain = absurd (cc is)
-settled_due call (Err Memory) (Err e) is due plain = tt
-
-pub settled_exact : (answer : Answer) (told : Result Answer Refusal) (r : Result Answer AllocError) → Settles told r → ComesTo answer told → IfOk r (λ other. (other ≡ answer) ⊎ IsFileFault other)
-settled_exact answer (Ok other) r is comes = subst (λ (x : Result Answer AllocError). IfOk x (λ o. (o ≡ answer) ⊎ IsFileFault o)) (sym is) (inl comes)
-settled_exact answer (Err (Answered other)) r is comes = subst (λ (x : Result Answer AllocError). IfOk x (λ o. (o ≡ answer) ⊎ IsFileFault o)) (sym is) (inl comes)
-settled_exact answer (Err (Failed role)) r is comes = subst (λ (x : Result Answer AllocError). IfOk x (λ o. (o ≡ answer) ⊎ IsFileFault o)) (sym is) (inr tt)
-settled_exact answer (Err Memory) (Ok other) is comes = absurd (cc is)
-settled_exact answer (Err Memory) (Err e) is comes = tt
+formless call none (no_session tess k rules kinds answer ask is lt refused) = absurd (none (RunSession tess k rules) ask)

@@ -2,4 +2,8 @@ pub mod Numbers
 pub mod Lists
 pub mod Reading
 pub mod Deciding
+pub mod Sessions
+pub mod Settling
 pub mod Ending
+pub mod Streams
+pub mod Plans

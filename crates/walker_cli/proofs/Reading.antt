@@ -3,7 +3,7 @@ use Rattle.std.proofs.Common.{◌≡◌, ℕ, List, [], ◌∷◌, codes, refl, 
 use Rattle.std.specs.Str.Parse.{digits_value}
 use Rattle.tile_model.specs.declared.Letter.{Letter}
 use Rattle.walk_words.specs.Text.{walk_text}
-use Rattle.walker_cli.specs.Tasks.{Task, TellType, CheckRules, IsNumber, IsKindForm, Ask}
+use Rattle.walker_cli.specs.Tasks.{Task, TellType, CheckRules, RunSession, IsNumber, IsKindForm, IsRunForm, Ask}
 
 -- a kind and a walk that two words write
 pub record IsStart (digits letters : List ℕ) (n : ℕ) (walk : List Letter) : Type 0 where
@@ -34,3 +34,30 @@ kind_task words tess digits letters is (TellType t k walk) ask =
       text = cc (is, ask.spelled);
     }
 kind_task words tess digits letters is (CheckRules t r) ask = absurd (cc (is, ask))
+kind_task words tess digits letters is (RunSession t n r) ask = absurd (cc (is, ask.spelled))
+
+pub run_form : (words : List (List ℕ)) (tess digits rules : List ℕ) (n : ℕ) → words ≡ codes "run" ∷ tess ∷ digits ∷ codes "--rules" ∷ rules ∷ [] → IsNumber digits n → IsRunForm words tess n rules
+run_form words tess digits rules n is number = record { digits = digits; number = number; spelled = is }
+
+-- a task that the words of a form `run` ask for
+pub record IsRunTask (tess digits rules : List ℕ) (task : Task) : Type 0 where
+  pub k : ℕ
+  pub is : task ≡ RunSession tess k rules
+  pub number : IsNumber digits k
+
+pub run_task : (words : List (List ℕ)) (tess digits rules : List ℕ) → words ≡ codes "run" ∷ tess ∷ digits ∷ codes "--rules" ∷ rules ∷ [] → (task : Task) → Ask words task → IsRunTask tess digits rules task
+run_task words tess digits rules is (RunSession t k r) ask =
+    let same_tess : t ≡ tess = cc (is, ask.spelled) in
+    let same_digits : ask.digits ≡ digits = cc (is, ask.spelled) in
+    let same_rules : r ≡ rules = cc (is, ask.spelled) in
+    record {
+      k = k;
+      is = λ i. RunSession (same_tess i) k (same_rules i);
+      number = subst (λ (l : List ℕ). IsNumber l k) same_digits ask.number;
+    }
+run_task words tess digits rules is (TellType t n w) ask = absurd (cc (is, ask.spelled))
+run_task words tess digits rules is (CheckRules t r) ask = absurd (cc (is, ask))
+
+-- digits write one number
+pub one_number : (digits : List ℕ) (n m : ℕ) → IsNumber digits n → IsNumber digits m → n ≡ m
+one_number digits n m one two = sym one.value ∙ two.value

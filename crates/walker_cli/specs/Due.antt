@@ -1,14 +1,18 @@
 -- The table of answers: which answer is due to the words and to what the files hold, no fault of the outside and no want of memory coming
--- between.
+-- between, and over which rules walkers are served instead.
 use Rattle.std.specs.Prelude.{ℕ, ◌<◌, List, length, Option}
 use Rattle.tile_model.specs.declared.Letter.{Letter}
 use Rattle.tile_model.specs.Tessellations.{TileKind}
 use Rattle.tile_model.specs.Walks.{type_of}
+use Rattle.tile_model.specs.Validity.{IsValid}
 use Rattle.tree_model.specs.Automata.{TreeAutomaton}
+use Rattle.tree_model.specs.Conditions.{IsAccepted}
+use Rattle.tess_text.specs.Spelling.{IsSpelling}
+use Rattle.rules_file.specs.Spelling.{IsRulesFile}
 use Rattle.walker_cli.specs.declared.answer.Answer.{Answer}
 use Rattle.walker_cli.specs.declared.answer.Answer.TheVariants.{LeadsTo, Accepted, Usage}
-use Rattle.walker_cli.specs.Tasks.{Task, TellType, CheckRules, Ask, HaveNoForm, tess_of, LacksKind}
-use Rattle.walker_cli.specs.Held.{Loaded, Refused, IsTess, IsRules}
+use Rattle.walker_cli.specs.Tasks.{Task, TellType, CheckRules, RunSession, Ask, IsRunForm, HaveNoForm, tess_of, LacksKind}
+use Rattle.walker_cli.specs.Held.{Loaded, Refused, Holds, IsTess, IsRules, tess_limit, rules_limit}
 
 -- a call of the program: its words, and what each file holds before it
 pub record Call : Type 0 where
@@ -28,3 +32,21 @@ pub data IsDue (call : Call) : Answer → Type 0 where
   no_rules : (tess rules : List ℕ) (kinds : List TileKind) (answer : Answer) → Ask call.words (CheckRules tess rules) → IsTess call.contents tess (Loaded kinds) → IsRules call.contents kinds rules (Refused answer) → IsDue call answer
   -- the rules are accepted
   rules_accepted : (tess rules : List ℕ) (kinds : List TileKind) (a : TreeAutomaton) → Ask call.words (CheckRules tess rules) → IsTess call.contents tess (Loaded kinds) → IsRules call.contents kinds rules (Loaded a) → IsDue call (Accepted (length a.states) (length a.corners))
+  -- the rules file of a session is refused
+  no_session : (tess : List ℕ) (k : ℕ) (rules : List ℕ) (kinds : List TileKind) (answer : Answer) → Ask call.words (RunSession tess k rules) → IsTess call.contents tess (Loaded kinds) → k < length kinds → IsRules call.contents kinds rules (Refused answer) → IsDue call answer
+
+-- The words are `run TESS K --rules RULES`, both files hold what they should within their limits, the automaton meets the twelve conditions, and
+-- K is a kind of the tessellation. Then the commands of the input are answered.
+pub record Serves (call : Call) (kinds : List TileKind) (automaton : TreeAutomaton) (k : ℕ) : Type 0 where
+  pub tess : List ℕ
+  pub rules : List ℕ
+  pub tess_bytes : List ℕ
+  pub rules_bytes : List ℕ
+  pub form : IsRunForm call.words tess k rules
+  pub holds_tess : Holds call.contents tess tess_limit tess_bytes
+  pub holds_rules : Holds call.contents rules rules_limit rules_bytes
+  pub tess_spelling : IsSpelling tess_bytes kinds
+  pub valid : IsValid kinds
+  pub rules_spelling : IsRulesFile rules_bytes automaton
+  pub accepted : IsAccepted kinds automaton
+  pub is_kind : k < length kinds

@@ -5,3 +5,5 @@ pub mod Held
 pub mod Due
 pub mod Loading
 pub mod Outcome
+pub mod Serving
+pub mod Ending

@@ -5,7 +5,7 @@ use Rattle.tile_kinds.specs.declared.fault.KindFault.TheVariants.{Count, Sides, 
 use Rattle.rules_file.specs.declared.fault.Part.{Part}
 use Rattle.rules_file.specs.declared.fault.Part.TheVariants.{Whole, Version, Scale, Roots, Corners, Corner as OneCorner, States, State}
 use Rattle.walker_cli.specs.declared.status.Status.{Status}
-use Rattle.walker_cli.specs.declared.status.Status.TheVariants.{Done, Usage as UsageStatus, FileFault as FileFaultStatus, FileTooLong as FileTooLongStatus, TessRefused, RulesText, NotAccepted, Memory, WriteFault}
+use Rattle.walker_cli.specs.declared.status.Status.TheVariants.{Done, Usage as UsageStatus, FileFault as FileFaultStatus, FileTooLong as FileTooLongStatus, TessRefused, RulesText, NotAccepted, Memory, ReadFault, WriteFault, InputTooLong}
 use Rattle.walker_cli.specs.declared.answer.Role.{Role}
 use Rattle.walker_cli.specs.declared.answer.Role.TheVariants.{Tess, Rules}
 use Rattle.walker_cli.specs.declared.answer.Answer.{Answer}
@@ -21,7 +21,9 @@ code_of TessRefused = 5
 code_of RulesText = 6
 code_of NotAccepted = 7
 code_of Memory = 11
+code_of ReadFault = 12
 code_of WriteFault = 13
+code_of InputTooLong = 15
 
 abbrev pub status_of : Answer → Status
 status_of (LeadsTo d) = Done

@@ -32,11 +32,6 @@ pub record ComesExactly (call : Call) (result : Status) (appended : List ℕ →
   pub only : result ≡ status → (answer : Answer) × IsDue call answer × (status_of answer ≡ status) × appended (line_of answer)
   pub always : (answer : Answer) → IsDue call answer → status_of answer ≡ status → ((result ≡ status) × appended (line_of answer)) ⊎ IsOutside result
 
--- what stood in a sink that tells its bytes still stands in front
-pub record IsPrefix (before after : List ℕ) : Type 0 where
-  pub more : List ℕ
-  pub all : after ≡ before ++ more
-
 -- the status with this line, unless the outside or memory fails
 abbrev pub Gives : Status → Status → (List ℕ → Type 0) → List ℕ → Type 0
 Gives result status appended line = ((result ≡ status) × appended line) ⊎ IsOutside result

@@ -1,12 +1,14 @@
-//! What a call of the program comes to, before anything is written.
+//! What a call of the program comes to, before the input is read and anything is written.
 ghost use Rattle.std.specs.Prelude.{◌≡◌, ◌⊎◌, ◌≤◌, ◌<◌, ℕ, List, length, map, IsTrue, IfOk, Ok, Err};
+ghost use Rattle.tile_model.specs.Tessellations.{TileKind};
+ghost use Rattle.tree_model.specs.Automata.{TreeAutomaton};
 ghost use Rattle.std.specs.String.{string_bytes};
 ghost use Rattle.way_io.specs.Counts.{Rose};
 ghost use Rattle.way_io.specs.Contents.{KeepsAll};
-ghost use Rattle.walker_cli.specs.Tasks.{TellType, CheckRules, Ask, HaveNoForm};
+ghost use Rattle.walker_cli.specs.Tasks.{TellType, CheckRules, RunSession, Ask, HaveNoForm, AreNotOfRun};
 ghost use Rattle.walker_cli.specs.Forms.{task_of};
-ghost use Rattle.walker_cli.specs.Due.{IsDue};
-ghost use Rattle.walker_cli.specs.Loading.{IsDueOf, ComesTo, IsFileFault, IsDueOrFailed, Settles};
+ghost use Rattle.walker_cli.specs.Due.{IsDue, Serves};
+ghost use Rattle.walker_cli.specs.Loading.{IsDueOf, ComesTo, ComesToServe, Says, SaysSome, ServesOver, HasKind, IsFileFault, TellsFault, IsPlanDue, Settles};
 
 use crate::answer::{Answer, Role};
 use crate::load::{Refusal, load_rules, load_tess};
@@ -16,6 +18,15 @@ use structure_check::Rules;
 use walk_words::{Walk, type_of};
 use way_io::Files;
 
+/// What a call comes to.
+#[derive(Debug, Drop)]
+pub enum Plan {
+    /// To say an answer.
+    Say(Answer),
+    /// To answer the commands of the input over rules, in the tree of a kind.
+    Serve { rules: Rules, kind: u8 },
+}
+
 /// The type that a walk leads to, in the tessellation of a file.
 fn tell_type<F: Files>(
     alloc: Global,
@@ -23,14 +34,15 @@ fn tell_type<F: Files>(
     tess: &str,
     kind: u32,
     walk: &Walk,
-) -> Result<Answer, Refusal>
+) -> Result<Plan, Refusal>
     ensures due { IsTrue F.tells → (words : List (List ℕ)) → Ask words (TellType tess.now kind walk.now)
         → IsDueOf (record { words = words; contents = F.contents files.old }) result }
     ensures exact { IsTrue F.tells → (words : List (List ℕ)) (answer : Answer) → Ask words (TellType tess.now kind walk.now)
         → IsDue (record { words = words; contents = F.contents files.old }) answer → ComesTo answer result }
+    ensures said { IfOk result SaysSome }
     ensures plain { (answer : Answer) → result ≡ Err (Refusal.Answered answer) → IsFileFault answer → ⊥ }
     ensures failed { (r : Role) → result ≡ Err (Refusal.Failed r) → Rose (F.fetch_faults files.old) (F.fetch_faults files.new) }
-    ensures no_fault { IfOk result (λ answer. IsFileFault answer → ⊥) }
+    ensures no_fault { IfOk result (λ plan. TellsFault plan → ⊥) }
     ensures same { IsTrue F.tells → KeepsAll (F.contents files.old) (F.contents files.new) }
     ensures stores { F.store_faults files.new ≡ F.store_faults files.old }
 {
@@ -39,10 +51,10 @@ fn tell_type<F: Files>(
         Err(refusal) => return Err(refusal),
     };
     if kind >= u32::from(tess.kinds()) {
-        return Ok(Answer::Usage);
+        return Ok(Plan::Say(Answer::Usage));
     }
     let start = tess.start(kind as u8);
-    Ok(Answer::LeadsTo(type_of(&tess, start, walk)))
+    Ok(Plan::Say(Answer::LeadsTo(type_of(&tess, start, walk))))
 }
 
 /// Whether the rules of a file are accepted over the tessellation of a file, and how many states and corner types they have.
@@ -51,14 +63,15 @@ fn check_rules<F: Files>(
     files: &mut F,
     tess: &str,
     rules: &str,
-) -> Result<Answer, Refusal>
+) -> Result<Plan, Refusal>
     ensures due { IsTrue F.tells → (words : List (List ℕ)) → Ask words (CheckRules tess.now rules.now)
         → IsDueOf (record { words = words; contents = F.contents files.old }) result }
     ensures exact { IsTrue F.tells → (words : List (List ℕ)) (answer : Answer) → Ask words (CheckRules tess.now rules.now)
         → IsDue (record { words = words; contents = F.contents files.old }) answer → ComesTo answer result }
+    ensures said { IfOk result SaysSome }
     ensures plain { (answer : Answer) → result ≡ Err (Refusal.Answered answer) → IsFileFault answer → ⊥ }
     ensures failed { (r : Role) → result ≡ Err (Refusal.Failed r) → Rose (F.fetch_faults files.old) (F.fetch_faults files.new) }
-    ensures no_fault { IfOk result (λ answer. IsFileFault answer → ⊥) }
+    ensures no_fault { IfOk result (λ plan. TellsFault plan → ⊥) }
     ensures same { IsTrue F.tells → KeepsAll (F.contents files.old) (F.contents files.new) }
     ensures stores { F.store_faults files.new ≡ F.store_faults files.old }
 {
@@ -70,7 +83,7 @@ fn check_rules<F: Files>(
         Ok(rules) => rules,
         Err(refusal) => return Err(refusal),
     };
-    Ok(accepted(&rules))
+    Ok(Plan::Say(accepted(&rules)))
 }
 
 /// The answer that tells how many states and corner types rules have.
@@ -84,54 +97,100 @@ fn accepted(rules: &Rules) -> Answer
     }
 }
 
+/// The rules of a file that are accepted over the tessellation of a file, and a kind of it, to serve walkers over.
+fn open_session<F: Files>(
+    alloc: Global,
+    files: &mut F,
+    tess: &str,
+    kind: u32,
+    rules: &str,
+) -> Result<Plan, Refusal>
+    ensures due { IsTrue F.tells → (words : List (List ℕ)) → Ask words (RunSession tess.now kind rules.now)
+        → IsDueOf (record { words = words; contents = F.contents files.old }) result }
+    ensures exact { IsTrue F.tells → (words : List (List ℕ)) (answer : Answer) → Ask words (RunSession tess.now kind rules.now)
+        → IsDue (record { words = words; contents = F.contents files.old }) answer → ComesTo answer result }
+    ensures serves { IsTrue F.tells → (words : List (List ℕ)) (kinds : List TileKind) (a : TreeAutomaton) (k : ℕ) → Ask words (RunSession tess.now kind rules.now)
+        → Serves (record { words = words; contents = F.contents files.old }) kinds a k → ComesToServe kinds a k result }
+    ensures kind { IfOk result HasKind }
+    ensures plain { (answer : Answer) → result ≡ Err (Refusal.Answered answer) → IsFileFault answer → ⊥ }
+    ensures failed { (r : Role) → result ≡ Err (Refusal.Failed r) → Rose (F.fetch_faults files.old) (F.fetch_faults files.new) }
+    ensures no_fault { IfOk result (λ plan. TellsFault plan → ⊥) }
+    ensures same { IsTrue F.tells → KeepsAll (F.contents files.old) (F.contents files.new) }
+    ensures stores { F.store_faults files.new ≡ F.store_faults files.old }
+{
+    let tess = match load_tess(alloc, files, tess) {
+        Ok(tess) => tess,
+        Err(refusal) => return Err(refusal),
+    };
+    if kind >= u32::from(tess.kinds()) {
+        return Ok(Plan::Say(Answer::Usage));
+    }
+    match load_rules(alloc, files, tess, rules) {
+        Ok(rules) => Ok(Plan::Serve {
+            rules,
+            kind: kind as u8,
+        }),
+        Err(refusal) => Err(refusal),
+    }
+}
+
 /// Does what a form of the words asks for.
-fn carry_out<F: Files>(alloc: Global, form: &Form, files: &mut F) -> Result<Answer, Refusal>
+fn carry_out<F: Files>(alloc: Global, form: &Form, files: &mut F) -> Result<Plan, Refusal>
     ensures due { IsTrue F.tells → (words : List (List ℕ)) → Ask words (task_of form.now)
         → IsDueOf (record { words = words; contents = F.contents files.old }) result }
     ensures exact { IsTrue F.tells → (words : List (List ℕ)) (answer : Answer) → Ask words (task_of form.now)
         → IsDue (record { words = words; contents = F.contents files.old }) answer → ComesTo answer result }
+    ensures serves { IsTrue F.tells → (words : List (List ℕ)) (kinds : List TileKind) (a : TreeAutomaton) (k : ℕ) → Ask words (task_of form.now)
+        → Serves (record { words = words; contents = F.contents files.old }) kinds a k → ComesToServe kinds a k result }
+    ensures kind { IfOk result HasKind }
+    ensures said { (words : List (List ℕ)) → Ask words (task_of form.now) → AreNotOfRun words → IfOk result SaysSome }
     ensures plain { (answer : Answer) → result ≡ Err (Refusal.Answered answer) → IsFileFault answer → ⊥ }
     ensures failed { (r : Role) → result ≡ Err (Refusal.Failed r) → Rose (F.fetch_faults files.old) (F.fetch_faults files.new) }
-    ensures no_fault { IfOk result (λ answer. IsFileFault answer → ⊥) }
+    ensures no_fault { IfOk result (λ plan. TellsFault plan → ⊥) }
     ensures same { IsTrue F.tells → KeepsAll (F.contents files.old) (F.contents files.new) }
     ensures stores { F.store_faults files.new ≡ F.store_faults files.old }
 {
     match form {
         Form::Kind { tess, kind, walk } => tell_type(alloc, files, tess, *kind, walk),
         Form::Check { tess, rules } => check_rules(alloc, files, tess, rules),
+        Form::Run { tess, kind, rules } => open_session(alloc, files, tess, *kind, rules),
     }
 }
 
-/// What a call comes to. Only want of memory keeps it from an answer.
+/// What a call comes to. Only want of memory keeps it from a plan.
 pub fn decide<F: Files>(
     alloc: Global,
     words: &[String],
     files: &mut F,
-) -> Result<Answer, AllocError>
-    ensures due { IsTrue F.tells → IfOk result (IsDueOrFailed (record { words = map string_bytes words.now; contents = F.contents files.old })) }
+) -> Result<Plan, AllocError>
+    ensures due { IsTrue F.tells → IfOk result (IsPlanDue (record { words = map string_bytes words.now; contents = F.contents files.old })) }
     ensures exact { IsTrue F.tells → (answer : Answer) → IsDue (record { words = map string_bytes words.now; contents = F.contents files.old }) answer
-        → IfOk result (λ other. (other ≡ answer) ⊎ IsFileFault other) }
-    ensures no_form { HaveNoForm (map string_bytes words.now) → IfOk result (λ answer. answer ≡ Answer.Usage) }
-    ensures failed { IfOk result (λ answer. IsFileFault answer → Rose (F.fetch_faults files.old) (F.fetch_faults files.new)) }
+        → IfOk result (λ plan. Says answer plan ⊎ TellsFault plan) }
+    ensures serves { IsTrue F.tells → (kinds : List TileKind) (a : TreeAutomaton) (k : ℕ) → Serves (record { words = map string_bytes words.now; contents = F.contents files.old }) kinds a k
+        → IfOk result (λ plan. ServesOver kinds a k plan ⊎ TellsFault plan) }
+    ensures no_form { HaveNoForm (map string_bytes words.now) → IfOk result (Says Answer.Usage) }
+    ensures said { AreNotOfRun (map string_bytes words.now) → IfOk result SaysSome }
+    ensures kind { IfOk result HasKind }
+    ensures failed { IfOk result (λ plan. TellsFault plan → Rose (F.fetch_faults files.old) (F.fetch_faults files.new)) }
     ensures same { IsTrue F.tells → KeepsAll (F.contents files.old) (F.contents files.new) }
     ensures stores { F.store_faults files.new ≡ F.store_faults files.old }
 {
     let form = match read_words(alloc, words) {
         Ok(form) => form,
-        Err(WordsFault::Usage) => return Ok(Answer::Usage),
+        Err(WordsFault::Usage) => return Ok(Plan::Say(Answer::Usage)),
         Err(WordsFault::Memory) => return Err(AllocError),
     };
     settle(carry_out(alloc, &form, files))
 }
 
-/// The answer that the steps came to.
-fn settle(told: Result<Answer, Refusal>) -> Result<Answer, AllocError>
+/// The plan that the steps came to.
+fn settle(told: Result<Plan, Refusal>) -> Result<Plan, AllocError>
     ensures { Settles told result }
 {
     match told {
-        Ok(answer) => Ok(answer),
-        Err(Refusal::Answered(answer)) => Ok(answer),
-        Err(Refusal::Failed(role)) => Ok(Answer::FileFault(role)),
+        Ok(plan) => Ok(plan),
+        Err(Refusal::Answered(answer)) => Ok(Plan::Say(answer)),
+        Err(Refusal::Failed(role)) => Ok(Plan::Say(Answer::FileFault(role))),
         Err(Refusal::Memory) => Err(AllocError),
     }
 }

@@ -115,6 +115,7 @@ pub fn load_rules<F: Files>(
     name: &str,
 ) -> Result<Rules, Refusal>
     ensures ok { IsTrue F.tells → IfOk result (λ r. IsRules (F.contents files.old) tess name.now (Loaded r.automaton)) }
+    ensures kinds { IfOk result (λ r. r.kinds ≡ tess) }
     ensures refused { IsTrue F.tells → (answer : Answer) → result ≡ Err (Refusal.Answered answer) → IsRules (F.contents files.old) tess name.now (Refused answer) }
     ensures too_long { IsTrue F.tells → HoldsTooMany (F.contents files.old) name.now rules_limit
         → MatchResult result (λ _. ⊥) (IsRefusedAs (Answer.FileTooLong Role.Rules)) }

@@ -1,10 +1,13 @@
-//! The program: it reads its words and the files that they name, does what they ask for, and exits with a status.
+//! The program: it reads its words and the files that they name, does what they ask for, with the commands of the input where they ask for
+//! that, and exits with a status.
 #![tactic(auto)]
 
 mod answer;
 mod decide;
 mod load;
 mod run;
+mod saying;
+mod serving;
 mod status;
 #[cfg(test)]
 mod tests;
@@ -13,13 +16,13 @@ mod words;
 use std::alloc::Global;
 use std::process::ExitCode;
 use std::{env, io};
-use way_io::{FillSource, HostFiles, StdSink};
+use way_io::{HostFiles, StdSink, StdSource};
 
 fn main(rt: HostRuntime) -> ExitCode {
     // Words that are not UTF-8 are in no form, as no words are.
     let words = words_of(rt.alloc(), &rt).unwrap_or(Vec::new(rt.alloc()));
     let mut files = HostFiles::new(&rt);
-    let mut input = FillSource::new(0, 0);
+    let mut input = StdSource::new(&rt);
     let mut out = StdSink::new(&rt);
     let status = run::run(
         rt.alloc(),

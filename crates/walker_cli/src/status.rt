@@ -21,8 +21,12 @@ pub enum Status {
     NotAccepted,
     /// There was no memory.
     Memory,
+    /// Reading the input failed.
+    ReadFault,
     /// Writing failed.
     WriteFault,
+    /// The input has over 268,435,456 bytes.
+    InputTooLong,
 }
 
 impl Status {
@@ -39,7 +43,9 @@ impl Status {
             Status::RulesText => 6,
             Status::NotAccepted => 7,
             Status::Memory => 11,
+            Status::ReadFault => 12,
             Status::WriteFault => 13,
+            Status::InputTooLong => 15,
         }
     }
 }

@@ -1,8 +1,8 @@
-// The worked rows over files in memory: the words, the line that is written, and the exit status.
+// The worked rows over files, sources and sinks in memory: the words, the input, what is written, and the exit status.
 use crate::run::run;
 use std::alloc::{AllocError, Global};
 use std::test::Fail;
-use way_io::{FillSource, MemFiles, MemSink};
+use way_io::{FillSource, MemFiles, MemSink, MemSource, Source};
 
 const P54: &str = "tess 1\nkind 0 5 1\njoin 0 0 0 0\ncorner 0 0 4\n";
 
@@ -35,7 +35,25 @@ fn files(alloc: Global, text: &str, old: &str, new: &str) -> Result<MemFiles, Al
     Ok(files)
 }
 
-// Whether the words, separated by spaces, lead to this line and this exit status.
+// Whether the words, separated by spaces, lead over this input to this output and this exit status.
+fn ends<I: Source>(
+    alloc: Global,
+    files: &mut MemFiles,
+    words: &str,
+    input: &mut I,
+    output: &str,
+    code: u8,
+) -> Result<bool, AllocError> {
+    let mut list = Vec::new(alloc);
+    for word in words.split(' ') {
+        list.push(String::from_str(alloc, word)?)?;
+    }
+    let mut out = MemSink::new(alloc, 200, 3, &[])?;
+    let status = run(alloc, list.as_slice(), files, input, &mut out);
+    Ok(out.taken() == output.as_bytes() && status.code() == code)
+}
+
+// Whether the words lead to this line and this exit status.
 fn leads(
     alloc: Global,
     files: &mut MemFiles,
@@ -43,15 +61,11 @@ fn leads(
     line: &str,
     code: u8,
 ) -> Result<bool, AllocError> {
-    let mut list = Vec::new(alloc);
-    for word in words.split(' ') {
-        list.push(String::from_str(alloc, word)?)?;
-    }
-    let mut out = MemSink::new(alloc, 100, 3, &[])?;
-    let mut input = FillSource::new(0, 0);
-    let status = run(alloc, list.as_slice(), files, &mut input, &mut out);
-    Ok(out.taken() == line.as_bytes() && status.code() == code)
+    let mut input = MemSource::new(alloc, b"new 0\n", 10, &[])?;
+    ends(alloc, files, words, &mut input, line, code)
 }
+
+const SESSION: &str = "run p54.tess 0 --rules p54.json";
 
 #[test]
 fn tells_types(rt: HostRuntime) -> Result<(), Fail> {
@@ -66,6 +80,12 @@ fn tells_types(rt: HostRuntime) -> Result<(), Fail> {
         ("fly", "usage\n", 2),
         ("kind none.tess 0 -", "file fault tess\n", 3),
         ("check p54.tess none.json", "file fault rules\n", 3),
+        ("run p54.tess 0 --rules none.json", "file fault rules\n", 3),
+        ("run p54.tess 1 --rules none.json", "usage\n", 2),
+        ("run p54.tess 0 --rules hr.tess", "rules syntax\n", 6),
+        ("run hr.tess 0 --rules p54.json", "broken 1 0 0\n", 7),
+        ("run p54.tess 0 --cells p54.json", "usage\n", 2),
+        ("run p54.tess 0x --rules p54.json", "usage\n", 2),
         ("check p54.tess p54.json", "accepted 3 1\n", 0),
     ] {
         let mut files = files(alloc, P54, "", "")?;
@@ -129,6 +149,59 @@ fn refuses_rules(rt: HostRuntime) -> Result<(), Fail> {
         assert!(rt;
             leads(alloc, &mut files, "check p54.tess x", line, code)?,
             "{new}"
+        );
+    }
+    Ok(())
+}
+
+#[test]
+fn answers_commands(rt: HostRuntime) -> Result<(), Fail> {
+    let alloc = rt.alloc();
+    for (commands, replies) in [
+        ("", ""),
+        (
+            "new 0\ngo 0 LXLX\nat 0\ngo 0 LXLX\nat 0\n",
+            "ok\nok\nat 0.4 4 0\nok\nat - 0 0\n",
+        ),
+        (
+            "new 0\nnew 1\ngo 0 LX\ngo 1 XRXRX\nsame 0 1\nsame 0 0\nnew 0\nat 2\nhop\n",
+            "ok\nok\nok\nok\nyes\nyes\ntaken\nno walker\nbad\n",
+        ),
+        (
+            "new 0\ngo 0 XLLLLXLLLXLLLLX\nat 0\ngo 0 X\nat 0\n",
+            "ok\nok\nat 1.2 1 0\nok\nat 0.4.3 4 0\n",
+        ),
+        ("\nnew 63\r\n\r\nat 63", "ok\nat - 0 0\n"),
+        ("new 0\ngo 0 -\nat 0\r", "ok\nok\nbad\n"),
+    ] {
+        let mut files = files(alloc, P54, "", "")?;
+        let mut input = MemSource::new(alloc, commands.as_bytes(), 7, &[])?;
+        assert!(rt;
+            ends(alloc, &mut files, SESSION, &mut input, replies, 0)?,
+            "{commands}"
+        );
+    }
+    Ok(())
+}
+
+#[test]
+fn stops_at_a_fault(rt: HostRuntime) -> Result<(), Fail> {
+    let alloc = rt.alloc();
+    let mut files = files(alloc, P54, "", "")?;
+    let mut input = MemSource::new(alloc, b"new 0\ngo 0 LXLX\nat 0\n", 10, &[2])?;
+    assert!(rt; ends(alloc, &mut files, SESSION, &mut input, "ok\n", 12)?);
+    Ok(())
+}
+
+#[test]
+fn measures_lines(rt: HostRuntime) -> Result<(), Fail> {
+    let alloc = rt.alloc();
+    for (count, reply) in [(8_192, "bad\n"), (8_193, "too long\n")] {
+        let mut files = files(alloc, P54, "", "")?;
+        let mut input = FillSource::new(b'x', count);
+        assert!(rt;
+            ends(alloc, &mut files, SESSION, &mut input, reply, 0)?,
+            "{reply}"
         );
     }
     Ok(())

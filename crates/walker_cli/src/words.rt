@@ -1,9 +1,9 @@
 //! The words of the program, and what they ask for.
-ghost use Rattle.std.specs.Prelude.{◌≡◌, ◌<◌, ◌^◌, ℕ, List, map, IfOk, IfSome, IfNone, IsErrOf, MatchResult};
+ghost use Rattle.std.specs.Prelude.{◌≡◌, ◌<◌, ◌^◌, ℕ, List, map, IfOk, IfSome, IfNone, IsErrOf, MatchResult, MatchOption};
 ghost use Rattle.std.specs.String.{string_bytes};
 ghost use Rattle.tile_model.specs.declared.Letter.{Letter};
 ghost use Rattle.walk_words.specs.Text.{walk_text};
-ghost use Rattle.walker_cli.specs.Tasks.{Task, IsNumber, Ask, HaveNoForm};
+ghost use Rattle.walker_cli.specs.Tasks.{Task, RunSession, IsNumber, IsRunForm, Ask, HaveNoForm, AreNotOfRun};
 ghost use Rattle.walker_cli.specs.Forms.{task_of};
 
 use std::alloc::Global;
@@ -22,6 +22,12 @@ pub enum Form<'a> {
     /// `check TESS RULES`
     Check {
         tess: &'a str,
+        rules: &'a str,
+    },
+    /// `run TESS K --rules RULES`
+    Run {
+        tess: &'a str,
+        kind: u32,
         rules: &'a str,
     },
 }
@@ -89,6 +95,32 @@ pub fn read_words<'a>(alloc: Global, words: &'a [String]) -> Result<Form<'a>, Wo
             tess: tess.as_str(),
             rules: rules.as_str(),
         }),
-        _ => Err(WordsFault::Usage),
+        _ => match read_run(words) {
+            Some(form) => Ok(form),
+            None => Err(WordsFault::Usage),
+        },
+    }
+}
+
+/// Reads words of the form `run`.
+fn read_run<'a>(words: &'a [String]) -> Option<Form<'a>>
+    ensures some { IfSome result (λ form. Ask (map string_bytes words.now) (task_of form)) }
+    ensures none { IfNone result (AreNotOfRun (map string_bytes words.now)) }
+    ensures complete { (tess : List ℕ) (k : ℕ) (rules : List ℕ) → IsRunForm (map string_bytes words.now) tess k rules → MatchOption result ⊥ (λ form. task_of form ≡ RunSession tess k rules) }
+{
+    match words {
+        [form, tess, k, option, rules]
+            if form.as_str() == "run" && option.as_str() == "--rules" =>
+        {
+            match number(k.as_str()) {
+                Some(kind) => Some(Form::Run {
+                    tess: tess.as_str(),
+                    kind,
+                    rules: rules.as_str(),
+                }),
+                None => None,
+            }
+        }
+        _ => None,
     }
 }

@@ -1,0 +1,170 @@
+-- From what the files hold to a session, or to the answer that refuses it.
+use Rattle.std.proofs.Common.{◌≡◌, ℕ, ◌<◌, ◌≤◌, List, Option, Result, Ok, Err, length, refl, sym, ◌∙◌, ap, subst, arith}
+use Rattle.tile_model.specs.Tessellations.{TileKind}
+use Rattle.tile_model.specs.Validity.{IsValid}
+use Rattle.tree_model.specs.Automata.{TreeAutomaton}
+use Rattle.tree_model.specs.Conditions.{IsAccepted}
+use Rattle.tess_text.specs.Spelling.{IsSpelling}
+use Rattle.rules_file.specs.Spelling.{IsRulesFile}
+use Rattle.structure_check.specs.Rules.{TreeRules}
+use Rattle.walker_cli.specs.declared.answer.Answer.{Answer}
+use Rattle.walker_cli.specs.declared.answer.Answer.TheVariants.{Usage}
+use Rattle.walker_cli.specs.declared.load.Refusal.{Refusal}
+use Rattle.walker_cli.specs.Tasks.{Task, TellType, CheckRules, RunSession, Ask, tess_of, LacksKind}
+use Rattle.walker_cli.specs.Held.{Loaded, Refused, Outcome, Holds, HoldsTooMany, IsTess, IsRules, tess_limit, rules_limit, tess_too_long, tess_line, tess_kinds, tess_loaded, rules_too_long, rules_syntax, rules_shape, rules_broken, rules_loaded}
+use Rattle.walker_cli.specs.Due.{Call, IsDue, Serves, no_form, no_tess, no_kind, type_told, no_rules, rules_accepted, no_session}
+use Rattle.walker_cli.specs.Loading.{IsRefusedAs, IsOfOutside}
+use Rattle.walker_cli.proofs.Deciding.{one_task, outside_comes, TessRead, RulesRead, tess_comes, rules_come}
+
+-- the rows of the table for words that ask for a session
+pub data SessionRow (call : Call) (tess : List ℕ) (k : ℕ) (rules : List ℕ) : Answer → Type 0 where
+  session_refused : (answer : Answer) → IsTess call.contents tess (Refused answer) → SessionRow call tess k rules answer
+  session_lacking : (kinds : List TileKind) → IsTess call.contents tess (Loaded kinds) → length kinds ≤ k → SessionRow call tess k rules Usage
+  session_broken : (kinds : List TileKind) (answer : Answer) → IsTess call.contents tess (Loaded kinds) → k < length kinds → IsRules call.contents kinds rules (Refused answer) → SessionRow call tess k rules answer
+
+pub session_row : (call : Call) (tess : List ℕ) (k : ℕ) (rules : List ℕ) → Ask call.words (RunSession tess k rules) → {answer : Answer} → IsDue call answer → SessionRow call tess k rules answer
+session_row call tess k rules ask (no_form none) = absurd (none (RunSession tess k rules) ask)
+session_row call tess k rules ask (no_tess task answer other is) =
+    let same = one_task call.words task (RunSession tess k rules) other ask in
+    session_refused answer (subst (λ (t : Task). IsTess call.contents (tess_of t) (Refused answer)) same is)
+session_row call tess k rules ask (no_kind task kinds other is lacks) =
+    let same = one_task call.words task (RunSession tess k rules) other ask in
+    session_lacking kinds (subst (λ (t : Task). IsTess call.contents (tess_of t) (Loaded kinds)) same is) (subst (λ (t : Task). LacksKind t (length kinds)) same lacks)
+session_row call tess k rules ask (type_told tess' k' walk kinds other is lt) = absurd (cc (one_task call.words (TellType tess' k' walk) (RunSession tess k rules) other ask))
+session_row call tess k rules ask (no_rules tess' rules' kinds answer other is refused) = absurd (cc (one_task call.words (CheckRules tess' rules') (RunSession tess k rules) other ask))
+session_row call tess k rules ask (rules_accepted tess' rules' kinds a other is loaded) = absurd (cc (one_task call.words (CheckRules tess' rules') (RunSession tess k rules) other ask))
+session_row call tess k rules ask (no_session tess' k' rules' kinds answer other is lt refused) =
+    let same = one_task call.words (RunSession tess' k' rules') (RunSession tess k rules) other ask in
+    let same_tess : tess' ≡ tess = cc same in
+    let same_kind : k' ≡ k = cc same in
+    let same_rules : rules' ≡ rules = cc same in
+    session_broken kinds answer (subst (λ (f : List ℕ). IsTess call.contents f (Loaded kinds)) same_tess is) (subst (λ (n : ℕ). n < length kinds) same_kind lt) (subst (λ (f : List ℕ). IsRules call.contents kinds f (Refused answer)) same_rules refused)
+
+-- the four ways in which the opening of a session ends, where an answer is due
+pub session_unread : {T : Type 0} (call : Call) (tess : List ℕ) (k : ℕ) (rules : List ℕ) (view : T → List TileKind) (refusal : Refusal) → TessRead {T = T} call.contents tess view (Err refusal) → {answer : Answer} → SessionRow call tess k rules answer → IsRefusedAs answer refusal
+session_unread call tess k rules view refusal known (session_refused answer is) = tess_comes call.contents tess view (Err refusal) known is
+session_unread call tess k rules view refusal known (session_lacking kinds is lacks) = outside_comes Usage refusal (tess_comes call.contents tess view (Err refusal) known is)
+session_unread call tess k rules view refusal known (session_broken kinds answer is lt refused) = outside_comes answer refusal (tess_comes call.contents tess view (Err refusal) known is)
+
+pub session_missing : {T : Type 0} (call : Call) (tess : List ℕ) (k : ℕ) (rules : List ℕ) (view : T → List TileKind) (t : T) → TessRead call.contents tess view (Ok t) → length (view t) ≤ k → {answer : Answer} → SessionRow call tess k rules answer → Usage ≡ answer
+session_missing call tess k rules view t known few (session_refused answer is) = absurd (tess_comes call.contents tess view (Ok t) known is)
+session_missing call tess k rules view t known few (session_lacking kinds is lacks) = refl
+session_missing call tess k rules view t known few (session_broken kinds answer is lt refused) =
+    let same : view t ≡ kinds = tess_comes call.contents tess view (Ok t) known is in
+    absurd (omega (arith, ap length same, few, lt))
+
+pub session_failed : {T S : Type 0} (call : Call) (tess : List ℕ) (k : ℕ) (rules : List ℕ) (view : T → List TileKind) (t : T) (tables : S → TreeAutomaton) (refusal : Refusal) → TessRead call.contents tess view (Ok t) → RulesRead {T = S} call.contents (view t) rules tables (Err refusal) → k < length (view t) → {answer : Answer} → SessionRow call tess k rules answer → IsRefusedAs answer refusal
+session_failed call tess k rules view t tables refusal known read few (session_refused answer is) = absurd (tess_comes call.contents tess view (Ok t) known is)
+session_failed call tess k rules view t tables refusal known read few (session_lacking kinds is lacks) =
+    let same : view t ≡ kinds = tess_comes call.contents tess view (Ok t) known is in
+    absurd (omega (arith, ap length same, few, lacks))
+session_failed call tess k rules view t tables refusal known read few (session_broken kinds answer is lt refused) =
+    let same : view t ≡ kinds = tess_comes call.contents tess view (Ok t) known is in
+    rules_come call.contents (view t) rules tables (Err refusal) read (subst (λ (ks : List TileKind). IsRules call.contents ks rules (Refused answer)) (sym same) refused)
+
+pub session_opened : {T S : Type 0} (call : Call) (tess : List ℕ) (k : ℕ) (rules : List ℕ) (view : T → List TileKind) (t : T) (tables : S → TreeAutomaton) (s : S) → TessRead call.contents tess view (Ok t) → RulesRead call.contents (view t) rules tables (Ok s) → k < length (view t) → {answer : Answer} → SessionRow call tess k rules answer → ⊥
+session_opened call tess k rules view t tables s known read few (session_refused answer is) = absurd (tess_comes call.contents tess view (Ok t) known is)
+session_opened call tess k rules view t tables s known read few (session_lacking kinds is lacks) =
+    let same : view t ≡ kinds = tess_comes call.contents tess view (Ok t) known is in
+    absurd (omega (arith, ap length same, few, lacks))
+session_opened call tess k rules view t tables s known read few (session_broken kinds answer is lt refused) =
+    let same : view t ≡ kinds = tess_comes call.contents tess view (Ok t) known is in
+    rules_come call.contents (view t) rules tables (Ok s) read (subst (λ (ks : List TileKind). IsRules call.contents ks rules (Refused answer)) (sym same) refused)
+
+-- what the files of a session hold, by the names that the words give them
+pub record Opens (call : Call) (tess : List ℕ) (k : ℕ) (rules : List ℕ) (kinds : List TileKind) (a : TreeAutomaton) (k' : ℕ) : Type 0 where
+  pub tess_holds : IsTess call.contents tess (Loaded kinds)
+  pub rules_hold : IsRules call.contents kinds rules (Loaded a)
+  pub is_kind : k < length kinds
+  pub one_kind : k ≡ k'
+
+pub opens : (call : Call) (tess : List ℕ) (k : ℕ) (rules : List ℕ) (kinds : List TileKind) (a : TreeAutomaton) (k' : ℕ) → Ask call.words (RunSession tess k rules) → Serves call kinds a k' → Opens call tess k rules kinds a k'
+opens call tess k rules kinds a k' ask serves =
+    let same = one_task call.words (RunSession serves.tess k' serves.rules) (RunSession tess k rules) serves.form ask in
+    let same_tess : serves.tess ≡ tess = cc same in
+    let same_kind : k' ≡ k = cc same in
+    let same_rules : serves.rules ≡ rules = cc same in
+    record {
+      tess_holds = subst (λ (f : List ℕ). IsTess call.contents f (Loaded kinds)) same_tess (tess_loaded serves.tess_bytes kinds serves.holds_tess serves.tess_spelling serves.valid);
+      rules_hold = subst (λ (f : List ℕ). IsRules call.contents kinds f (Loaded a)) same_rules (rules_loaded serves.rules_bytes a serves.holds_rules serves.rules_spelling serves.accepted);
+      is_kind = subst (λ (n : ℕ). n < length kinds) same_kind serves.is_kind;
+      one_kind = sym same_kind;
+    }
+
+-- and where the call serves
+pub served_unread : {T : Type 0} (call : Call) (tess : List ℕ) (k : ℕ) (rules : List ℕ) (kinds : List TileKind) (a : TreeAutomaton) (k' : ℕ) (view : T → List TileKind) (refusal : Refusal) → TessRead {T = T} call.contents tess view (Err refusal) → Opens call tess k rules kinds a k' → IsOfOutside refusal
+served_unread call tess k rules kinds a k' view refusal known opened = tess_comes call.contents tess view (Err refusal) known opened.tess_holds
+
+pub served_missing : {T : Type 0} (call : Call) (tess : List ℕ) (k : ℕ) (rules : List ℕ) (kinds : List TileKind) (a : TreeAutomaton) (k' : ℕ) (view : T → List TileKind) (t : T) → TessRead call.contents tess view (Ok t) → length (view t) ≤ k → Opens call tess k rules kinds a k' → ⊥
+served_missing call tess k rules kinds a k' view t known few opened =
+    let same : view t ≡ kinds = tess_comes call.contents tess view (Ok t) known opened.tess_holds in
+    let lt = opened.is_kind in
+    omega (arith, ap length same, few, lt)
+
+pub served_failed : {T S : Type 0} (call : Call) (tess : List ℕ) (k : ℕ) (rules : List ℕ) (kinds : List TileKind) (a : TreeAutomaton) (k' : ℕ) (view : T → List TileKind) (t : T) (tables : S → TreeAutomaton) (refusal : Refusal) → TessRead call.contents tess view (Ok t) → RulesRead {T = S} call.contents (view t) rules tables (Err refusal) → Opens call tess k rules kinds a k' → IsOfOutside refusal
+served_failed call tess k rules kinds a k' view t tables refusal known read opened =
+    let same : view t ≡ kinds = tess_comes call.contents tess view (Ok t) known opened.tess_holds in
+    rules_come call.contents (view t) rules tables (Err refusal) read (subst (λ (ks : List TileKind). IsRules call.contents ks rules (Loaded a)) (sym same) opened.rules_hold)
+
+pub served_opened : {T S : Type 0} (call : Call) (tess : List ℕ) (k : ℕ) (rules : List ℕ) (kinds : List TileKind) (a : TreeAutomaton) (k' : ℕ) (view : T → List TileKind) (t : T) (tables : S → TreeAutomaton) (s : S) → TessRead call.contents tess view (Ok t) → RulesRead call.contents (view t) rules tables (Ok s) → Opens call tess k rules kinds a k' → (view t ≡ kinds) × (tables s ≡ a) × (k ≡ k')
+served_opened call tess k rules kinds a k' view t tables s known read opened =
+    let same : view t ≡ kinds = tess_comes call.contents tess view (Ok t) known opened.tess_holds in
+    (same, rules_come call.contents (view t) rules tables (Ok s) read (subst (λ (ks : List TileKind). IsRules call.contents ks rules (Loaded a)) (sym same) opened.rules_hold), opened.one_kind)
+
+-- what a file holds whose tessellation is loaded
+record HoldsTess (contents : List ℕ → Option (List ℕ)) (file : List ℕ) (kinds : List TileKind) : Type 0 where
+  pub bytes : List ℕ
+  pub holds : Holds contents file tess_limit bytes
+  pub spelling : IsSpelling bytes kinds
+  pub valid : IsValid kinds
+
+abbrev HoldsTessOf : (List ℕ → Option (List ℕ)) → List ℕ → Outcome (List TileKind) → Type 0
+HoldsTessOf contents file (Loaded kinds) = HoldsTess contents file kinds
+HoldsTessOf contents file (Refused answer) = Unit {0}
+
+holds_tess : (contents : List ℕ → Option (List ℕ)) (file : List ℕ) {outcome : Outcome (List TileKind)} → IsTess contents file outcome → HoldsTessOf contents file outcome
+holds_tess contents file (tess_too_long long) = tt
+holds_tess contents file (tess_line bytes n holds bad) = tt
+holds_tess contents file (tess_kinds bytes fault holds bad) = tt
+holds_tess contents file (tess_loaded bytes kinds holds spelling valid) = record { bytes = bytes; holds = holds; spelling = spelling; valid = valid }
+
+-- what a file holds whose rules are loaded
+record HoldsRules (contents : List ℕ → Option (List ℕ)) (kinds : List TileKind) (file : List ℕ) (a : TreeAutomaton) : Type 0 where
+  pub bytes : List ℕ
+  pub holds : Holds contents file rules_limit bytes
+  pub spelling : IsRulesFile bytes a
+  pub accepted : IsAccepted kinds a
+
+abbrev HoldsRulesOf : (List ℕ → Option (List ℕ)) → List TileKind → List ℕ → Outcome TreeAutomaton → Type 0
+HoldsRulesOf contents kinds file (Loaded a) = HoldsRules contents kinds file a
+HoldsRulesOf contents kinds file (Refused answer) = Unit {0}
+
+holds_rules : (contents : List ℕ → Option (List ℕ)) (kinds : List TileKind) (file : List ℕ) {outcome : Outcome TreeAutomaton} → IsRules contents kinds file outcome → HoldsRulesOf contents kinds file outcome
+holds_rules contents kinds file (rules_too_long long) = tt
+holds_rules contents kinds file (rules_syntax bytes holds none) = tt
+holds_rules contents kinds file (rules_shape bytes d part index holds text first) = tt
+holds_rules contents kinds file (rules_broken bytes a n first second holds spelled broken) = tt
+holds_rules contents kinds file (rules_loaded bytes a holds spelled accepted) = record { bytes = bytes; holds = holds; spelling = spelled; accepted = accepted }
+
+serves_loaded : (call : Call) (tess : List ℕ) (k : ℕ) (rules : List ℕ) (kinds : List TileKind) (a : TreeAutomaton) → Ask call.words (RunSession tess k rules) → IsTess call.contents tess (Loaded kinds) → k < length kinds → IsRules call.contents kinds rules (Loaded a) → Serves call kinds a k
+serves_loaded call tess k rules kinds a ask of_tess lt of_rules =
+    let t = holds_tess call.contents tess of_tess in
+    let r = holds_rules call.contents kinds rules of_rules in
+    record {
+      tess = tess;
+      rules = rules;
+      tess_bytes = t.bytes;
+      rules_bytes = r.bytes;
+      form = ask;
+      holds_tess = t.holds;
+      holds_rules = r.holds;
+      tess_spelling = t.spelling;
+      valid = t.valid;
+      rules_spelling = r.spelling;
+      accepted = r.accepted;
+      is_kind = lt;
+    }
+
+-- a session over what was loaded is due
+pub session_due : (call : Call) (tess : List ℕ) (k : ℕ) (rules : List ℕ) (kinds : List TileKind) (r : TreeRules) → Ask call.words (RunSession tess k rules) → IsTess call.contents tess (Loaded kinds) → k < length kinds → IsRules call.contents kinds rules (Loaded r.automaton) → r.kinds ≡ kinds → Serves call r.kinds r.automaton k
+session_due call tess k rules kinds r ask of_tess lt of_rules same = subst (λ (ks : List TileKind). Serves call ks r.automaton k) (sym same) (serves_loaded call tess k rules kinds r.automaton ask of_tess lt of_rules)
