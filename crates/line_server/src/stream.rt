@@ -53,7 +53,6 @@ pub fn serve<I: Source, O: Sink>(
     ensures overrun { IsTrue I.tells → result ≡ Ending.InputTooLong → most_of_stream < length (I.left input.old) }
     ensures read_cause { result ≡ Ending.ReadFault → Rose (I.faults input.old) (I.faults input.new) }
     ensures write_cause { result ≡ Ending.WriteFault → Rose (O.faults out.old) (O.faults out.new) }
-
     ensures unbroken { result ≡ Ending.InputTooLong → O.faults out.new ≡ O.faults out.old }
 
     // No byte is lost or doubled, and what was written stays.
