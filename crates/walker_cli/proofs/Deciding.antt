@@ -1,5 +1,5 @@
 -- From what the files hold to the answer that is due.
-use Rattle.std.proofs.Common.{◌≡◌, ℕ, ◌<◌, ◌≤◌, List, Option, Result, Ok, Err, IfOk, MatchResult, ◌⊎◌, inl, inr, length, refl, sym, ◌∙◌, ap, subst, arith}
+use Rattle.std.proofs.Common.{◌≡◌, ℕ, ◌<◌, ◌≤◌, List, Option, Result, Ok, Err, MatchResult, length, refl, sym, ◌∙◌, ap, subst, arith}
 use Rattle.std.specs.Str.Parse.{digits_value}
 use Rattle.tile_model.specs.declared.Letter.{Letter}
 use Rattle.tile_model.specs.Tessellations.{TileKind}
@@ -16,19 +16,15 @@ use Rattle.rules_file.specs.Spelling.{IsTextOf, IsRulesFile}
 use Rattle.rules_file.specs.Faults.{IsFirstFault}
 use Rattle.structure_check.specs.Broken.{IsFirstBroken}
 use Rattle.walk_words.specs.Text.{walk_text}
-use Rattle.walker_cli.specs.declared.answer.Role.{Role}
 use Rattle.walker_cli.specs.declared.answer.Role.TheVariants.{Tess, Rules}
 use Rattle.walker_cli.specs.declared.answer.Answer.{Answer}
-use Rattle.walker_cli.specs.declared.answer.Answer.TheVariants.{LeadsTo, Accepted, Usage, FileFault, FileTooLong, TessLine, TessKinds, RulesSyntax, RulesShape, Broken}
-use Rattle.walker_cli.specs.declared.decide.Plan.{Plan}
-use Rattle.walker_cli.specs.declared.decide.Plan.TheVariants.{Say, Serve}
+use Rattle.walker_cli.specs.declared.answer.Answer.TheVariants.{LeadsTo, Accepted, Usage, FileTooLong, TessLine, TessKinds, RulesSyntax, RulesShape, Broken}
 use Rattle.walker_cli.specs.declared.load.Refusal.{Refusal}
 use Rattle.walker_cli.specs.declared.load.Refusal.TheVariants.{Answered, Failed, Memory}
 use Rattle.walker_cli.specs.Tasks.{Task, TellType, CheckRules, RunSession, Ask, HaveNoForm, tess_of, LacksKind}
 use Rattle.walker_cli.specs.Held.{Loaded, Refused, Outcome, Holds, HoldsTooMany, IsTess, IsRules, tess_limit, rules_limit, tess_too_long, tess_line, tess_kinds, tess_loaded, rules_too_long, rules_syntax, rules_shape, rules_broken, rules_loaded}
-use Rattle.walker_cli.specs.Due.{Call, IsDue, Serves, no_form, no_tess, no_kind, type_told, no_rules, rules_accepted, no_session}
-use Rattle.walker_cli.specs.Loading.{IsRefusedAs, IsOfOutside, IsDueOf, ComesTo, ComesToServe, Says, SaysSome, ServesOver, HasKind, IsFileFault, TellsFault, IsDueOrFailed, IsPlanDue, Settles}
-use Rattle.std.specs.declared.alloc.AllocError.{AllocError}
+use Rattle.walker_cli.specs.Due.{Call, IsDue, no_form, no_tess, no_kind, type_told, no_rules, rules_accepted, no_session}
+use Rattle.walker_cli.specs.Loading.{IsRefusedAs, IsOfOutside, IsDueOf}
 use Rattle.walk_words.proofs.Codes.{one_walk}
 
 -- what a refusal that tells of the outside is taken for

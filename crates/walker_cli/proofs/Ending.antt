@@ -1,5 +1,5 @@
 -- From the way in which a call ended to the clauses of the top call.
-use Rattle.std.proofs.Common.{◌≡◌, ℕ, ◌<◌, ◌≤◌, Bool, IsTrue, List, [], ◌∷◌, ◌++◌, codes, decimal, ◌⊎◌, inl, inr, refl, sym, ◌∙◌, ap, subst, append_assoc, length, arith}
+use Rattle.std.proofs.Common.{◌≡◌, ℕ, ◌<◌, ◌≤◌, Bool, IsTrue, List, [], ◌++◌, codes, decimal, ◌⊎◌, inl, inr, refl, sym, ◌∙◌, ap, subst, append_assoc, length, arith}
 use Rattle.tile_model.specs.Tessellations.{TileKind}
 use Rattle.tile_model.specs.Walks.{type_of}
 use Rattle.tree_model.specs.Automata.{TreeAutomaton}
@@ -257,6 +257,13 @@ module _ (tells gives takes : Bool) (call : Call) (left left' taken taken' : Lis
   serves_some (no_plan is kept) told (inr long) = absurd (cc (is, long))
   serves_some (with_answer answer known formless says) told of_stream = absurd (said_status answer says of_stream)
   serves_some (with_stream kinds a k known asked ends) told of_stream = record { kinds = kinds; automaton = a; kind = k; serves = (known told).serves }
+
+  -- and only where the words ask for it
+  pub no_stream : EndsCall tells gives takes call left left' taken taken' result → AreNotOfRun call.words → (result ≡ ReadFault) ⊎ (result ≡ InputTooLong) → ⊥
+  no_stream (no_plan is kept) unasked (inl read) = cc (is, read)
+  no_stream (no_plan is kept) unasked (inr long) = cc (is, long)
+  no_stream (with_answer answer known formless says) unasked of_stream = said_status answer says of_stream
+  no_stream (with_stream kinds a k known asked ends) unasked of_stream = asked unasked
 
   -- a call that says an answer serves no walkers, unless a file could not be read
   said_outside : (answer : Answer) → IsFileFault answer → SaysLine takes answer taken taken' result → IsOutside result

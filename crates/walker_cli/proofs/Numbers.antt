@@ -1,7 +1,7 @@
 -- `parse` reads exactly the numbers of one to nine digits, where no plus stands in front.
-use Rattle.std.proofs.Common.{◌≡◌, ◌≢◌, ℕ, ◌<◌, ◌≤◌, ◌^◌, List, length, get_or, Result, Ok, Err, IfSome, IfNone, refl, sym, ◌∙◌, arith, ap, subst}
-use Rattle.std.specs.Result.{result_ok, OkIff}
-use Rattle.std.specs.Str.Parse.{ParsesUnsigned, AllDigits, digits_value, IsNumeral, without_leading_plus}
+use Rattle.std.proofs.Common.{◌≡◌, ◌≢◌, ℕ, ◌≤◌, List, length, get_or, Result, Ok, Err, IfSome, IfNone, sym, ◌∙◌, arith, ap, subst}
+use Rattle.std.specs.Result.{result_ok}
+use Rattle.std.specs.Str.Parse.{ParsesUnsigned, AllDigits, digits_value, IsNumeral}
 use Rattle.std.proofs.lemmas.Str.Parse.{IsNumeralModel, numerals_by_value, tells_digits, parse_gives, digits_value_short, digit_at, without_leading_plus_none}
 use Rattle.walker_cli.specs.Tasks.{IsNumber}
 

@@ -1,6 +1,5 @@
 -- What a list of words that begins with a form's word may ask for.
-use Rattle.std.proofs.Common.{◌≡◌, ℕ, List, [], ◌∷◌, codes, refl, sym, ◌∙◌, ap, subst}
-use Rattle.std.specs.Str.Parse.{digits_value}
+use Rattle.std.proofs.Common.{◌≡◌, ℕ, List, [], ◌∷◌, codes, sym, ◌∙◌, ap, subst}
 use Rattle.tile_model.specs.declared.Letter.{Letter}
 use Rattle.walk_words.specs.Text.{walk_text}
 use Rattle.walker_cli.specs.Tasks.{Task, TellType, CheckRules, RunSession, IsNumber, IsKindForm, IsRunForm, Ask}

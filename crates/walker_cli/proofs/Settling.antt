@@ -10,7 +10,7 @@ use Rattle.walker_cli.specs.declared.decide.Plan.{Plan}
 use Rattle.walker_cli.specs.declared.decide.Plan.TheVariants.{Say, Serve}
 use Rattle.walker_cli.specs.declared.load.Refusal.{Refusal}
 use Rattle.walker_cli.specs.declared.load.Refusal.TheVariants.{Answered, Failed, Memory}
-use Rattle.walker_cli.specs.Due.{Call, IsDue, Serves}
+use Rattle.walker_cli.specs.Due.{Call, IsDue}
 use Rattle.walker_cli.specs.Loading.{IsDueOf, ComesTo, ComesToServe, Says, SaysSome, ServesOver, HasKind, IsFileFault, TellsFault, IsDueOrFailed, IsPlanDue, Settles}
 
 -- a plan that tells of a file that could not be read comes from such a refusal

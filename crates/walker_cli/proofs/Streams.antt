@@ -1,5 +1,5 @@
 -- From what a session did with a stream to how the stream ended.
-use Rattle.std.proofs.Common.{◌≡◌, ℕ, ◌≤◌, ◌<◌, Bool, IsTrue, List, [], ◌++◌, length, ◌⊎◌, inl, inr, refl, sym, ◌∙◌, ap, subst, arith}
+use Rattle.std.proofs.Common.{◌≡◌, ℕ, ◌≤◌, ◌<◌, Bool, IsTrue, List, [], ◌++◌, length, ◌⊎◌, inl, inr, refl, sym, ◌∙◌, subst, arith}
 use Rattle.std.proofs.lemmas.List.{append-nil}
 use Rattle.std.proofs.lemmas.List.Elements.{All-nil}
 use Rattle.structure_check.specs.Rules.{TreeRules}
@@ -10,12 +10,12 @@ use Rattle.session_core.specs.Sessions.{SessionState}
 use Rattle.session_core.specs.WalkSessions.{StandsForWalks, IsDueOverWalks}
 use Rattle.way_io.specs.Pieces.{AppendsPrefix}
 use Rattle.line_server.specs.Lines.{feed, LacksFeed, most_of_stream}
-use Rattle.line_server.specs.Outputs.{History, IsLinesOutput, IsFrontOutput, of_lines, none}
+use Rattle.line_server.specs.Outputs.{History, of_lines, none}
 use Rattle.line_server.specs.Sessions.{Continues}
 use Rattle.line_server.specs.Endings.{IsServed, IsCutOff, IsOverrun, IsBegun}
 use Rattle.walker_cli.specs.declared.status.Status.{Status}
 use Rattle.walker_cli.specs.declared.status.Status.TheVariants.{Done, ReadFault, WriteFault, InputTooLong, Memory}
-use Rattle.walker_cli.specs.Serving.{OutputStands, LinesStand, StandsUpTo, RefusalStands, BeginningStands, of_output, of_refusal, too_long_line}
+use Rattle.walker_cli.specs.Serving.{OutputStands, LinesStand, StandsUpTo, of_output, of_refusal, too_long_line}
 use Rattle.walker_cli.specs.Ending.{EndsStream, answered, cut_off, over_limit, broken_off, out_of_memory}
 
 -- what holds of the replies that are due to a session holds of those over its rules

@@ -6,7 +6,6 @@ use Rattle.rules_file.specs.declared.fault.Part.{Part}
 use Rattle.rules_file.specs.declared.fault.Part.TheVariants.{Whole, Version, Scale, Roots, Corners, Corner as OneCorner, States, State}
 use Rattle.walker_cli.specs.declared.status.Status.{Status}
 use Rattle.walker_cli.specs.declared.status.Status.TheVariants.{Done, Usage as UsageStatus, FileFault as FileFaultStatus, FileTooLong as FileTooLongStatus, TessRefused, RulesText, NotAccepted, Memory, ReadFault, WriteFault, InputTooLong}
-use Rattle.walker_cli.specs.declared.answer.Role.{Role}
 use Rattle.walker_cli.specs.declared.answer.Role.TheVariants.{Tess, Rules}
 use Rattle.walker_cli.specs.declared.answer.Answer.{Answer}
 use Rattle.walker_cli.specs.declared.answer.Answer.TheVariants.{LeadsTo, Accepted, Usage, FileFault, FileTooLong, TessLine, TessKinds, RulesSyntax, RulesShape, Broken}

@@ -67,7 +67,7 @@ module _ (call : Call) where
     -- output was appended; unless the outside or memory fails.
     abbrev pub StreamIsAnswered : Type 0
     StreamIsAnswered = (kinds : List TileKind) (a : TreeAutomaton) (k : ℕ) → Serves call kinds a k → length left ≤ most_of_stream
-      → ((result ≡ Done) × OutputStands (IsWalkReply kinds a k) left left' taken taken') ⊎ IsOutsideOfStream result
+        → ((result ≡ Done) × OutputStands (IsWalkReply kinds a k) left left' taken taken') ⊎ IsOutsideOfStream result
 
     -- Done of such a call says so by itself.
     abbrev pub DoneIsWhole : Type 0
@@ -85,14 +85,14 @@ module _ (call : Call) where
     -- they answer.
     abbrev pub FaultLeavesBeginning : Type 0
     FaultLeavesBeginning = result ≡ WriteFault
-      → ((answer : Answer) × IsDueOrFailed call answer × AppendsPrefix taken taken' (line_of answer))
-      ⊎ ((kinds : List TileKind) × (a : TreeAutomaton) × (k : ℕ) × Serves call kinds a k × BeginningStands (IsWalkReply kinds a k) left taken taken')
+        → ((answer : Answer) × IsDueOrFailed call answer × AppendsPrefix taken taken' (line_of answer))
+        ⊎ ((kinds : List TileKind) × (a : TreeAutomaton) × (k : ℕ) × Serves call kinds a k × BeginningStands (IsWalkReply kinds a k) left taken taken')
 
     -- Memory says that nothing was appended, or in a call that serves walkers the beginning of what they answer.
     abbrev pub WantLeavesBeginning : Type 0
     WantLeavesBeginning = result ≡ Memory
-      → (taken' ≡ taken)
-      ⊎ ((kinds : List TileKind) × (a : TreeAutomaton) × (k : ℕ) × Serves call kinds a k × IsBegun (IsWalkReply kinds a k) [] left taken taken')
+        → (taken' ≡ taken)
+        ⊎ ((kinds : List TileKind) × (a : TreeAutomaton) × (k : ℕ) × Serves call kinds a k × IsBegun (IsWalkReply kinds a k) [] left taken taken')
 
   -- InputTooLong comes exactly where the call serves walkers and the stream is over its limit, unless the outside or memory fails.
   pub record ComesForLongInput (result : Status) (left : List ℕ) : Type 0 where

@@ -158,11 +158,7 @@ fn carry_out<F: Files>(alloc: Global, form: &Form, files: &mut F) -> Result<Plan
 }
 
 /// What a call comes to. Only want of memory keeps it from a plan.
-pub fn decide<F: Files>(
-    alloc: Global,
-    words: &[String],
-    files: &mut F,
-) -> Result<Plan, AllocError>
+pub fn decide<F: Files>(alloc: Global, words: &[String], files: &mut F) -> Result<Plan, AllocError>
     ensures due { IsTrue F.tells → IfOk result (IsPlanDue (record { words = map string_bytes words.now; contents = F.contents files.old })) }
     ensures exact { IsTrue F.tells → (answer : Answer) → IsDue (record { words = map string_bytes words.now; contents = F.contents files.old }) answer
         → IfOk result (λ plan. Says answer plan ⊎ TellsFault plan) }

@@ -54,6 +54,7 @@ pub fn run<F: Files, I: Source, O: Sink>(
     ensures file_fault_line { result ≡ Status.FileFault → (role : Role) × Appends O.tells (O.taken out.old) (O.taken out.new) (line_of (Answer.FileFault role)) }
     ensures read_fault { result ≡ Status.ReadFault → Rose (I.faults input.old) (I.faults input.new) }
     ensures read_fault_serves { IsTrue F.tells → result ≡ Status.ReadFault → ServesSome (record { words = map string_bytes words.now; contents = F.contents files.old }) }
+    ensures stream_unread { AreNotOfRun (map string_bytes words.now) → (result ≡ Status.ReadFault) ⊎ (result ≡ Status.InputTooLong) → ⊥ }
     ensures write_fault { result ≡ Status.WriteFault → Rose (O.faults out.old) (O.faults out.new) }
     ensures input_too_long { IsTrue F.tells → IsTrue I.tells → ComesForLongInput (record { words = map string_bytes words.now; contents = F.contents files.old }) result (I.left input.old) }
 

@@ -1,6 +1,5 @@
-use Rattle.std.proofs.Common.{◌≡◌, List, Err, Ok, Option, length, sym, ◌∙◌, ap, subst}
+use Rattle.std.proofs.Common.{List, Err, Ok, sym, ◌∙◌, ap, subst}
 use Rattle.tile_model.specs.Tessellations.{TileKind}
-use Rattle.tree_model.specs.Automata.{TreeAutomaton}
 use Rattle.structure_check.specs.Rules.{TreeRules}
 use Rattle.walker_cli.specs.declared.answer.Answer.{Answer}
 use Rattle.walker_cli.specs.Tasks.{CheckRules}

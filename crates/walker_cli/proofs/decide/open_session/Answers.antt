@@ -1,10 +1,9 @@
-use Rattle.std.proofs.Common.{◌≡◌, ℕ, ◌<◌, ◌≤◌, List, Err, Ok, length, rules, sym, ◌∙◌, ap, subst}
+use Rattle.std.proofs.Common.{◌<◌, ◌≤◌, List, Err, Ok, length, rules, ◌∙◌, ap}
 use Rattle.tile_model.specs.Tessellations.{TileKind}
-use Rattle.tree_model.specs.Automata.{TreeAutomaton}
 use Rattle.structure_check.specs.Rules.{TreeRules}
 use Rattle.walker_cli.specs.Tasks.{RunSession}
 use Rattle.walker_cli.specs.Held.{Loaded, Refused}
-use Rattle.walker_cli.specs.Due.{IsDue, no_tess, no_kind, no_session}
+use Rattle.walker_cli.specs.Due.{no_tess, no_kind, no_session}
 use Rattle.walker_cli.proofs.Deciding.{refusal_due, rules_kept, read_kept}
 use Rattle.walker_cli.proofs.Sessions.{session_row, session_unread, session_missing, session_failed, session_opened, opens, served_unread, served_missing, served_failed, served_opened, session_due}
 use Rattle.walker_cli.proofs.decide.open_session.Goals as goal
@@ -86,8 +85,8 @@ returns-in-Ok-load_rules-clause-exact g c = λ told words answer ask due.
 pub returns-in-Ok-load_rules-clause-serves : goal.returns-in-Ok-load_rules-clause-serves
 returns-in-Ok-load_rules-clause-serves g c = λ told words kinds a k ask serves.
     let found = served_opened _ c.args.tess.now c.args.kind c.args.rules.now kinds a k (λ (t : List TileKind). t) c.in-Ok.tess (λ (r : TreeRules). r.automaton) c.in-Ok-load_rules.rules
-      (record { too_long = c.in-Ok.ensures.too_long told; bad_line = c.in-Ok.ensures.bad_line told; bad_kinds = c.in-Ok.ensures.bad_kinds told; loaded = c.in-Ok.ensures.loaded told })
-      (read_kept (c.in-Ok.ensures.same told) c.in-Ok.tess c.args.rules.now (λ (r : TreeRules). r.automaton) (Ok c.in-Ok-load_rules.rules)
-      (record { too_long = c.in-Ok-load_rules.ensures.too_long told; no_text = c.in-Ok-load_rules.ensures.no_text told; misshapen = c.in-Ok-load_rules.ensures.misshapen told; broken = c.in-Ok-load_rules.ensures.broken told; loaded = c.in-Ok-load_rules.ensures.loaded told }))
-      (opens _ c.args.tess.now c.args.kind c.args.rules.now kinds a k ask serves) in
+    (record { too_long = c.in-Ok.ensures.too_long told; bad_line = c.in-Ok.ensures.bad_line told; bad_kinds = c.in-Ok.ensures.bad_kinds told; loaded = c.in-Ok.ensures.loaded told })
+    (read_kept (c.in-Ok.ensures.same told) c.in-Ok.tess c.args.rules.now (λ (r : TreeRules). r.automaton) (Ok c.in-Ok-load_rules.rules)
+    (record { too_long = c.in-Ok-load_rules.ensures.too_long told; no_text = c.in-Ok-load_rules.ensures.no_text told; misshapen = c.in-Ok-load_rules.ensures.misshapen told; broken = c.in-Ok-load_rules.ensures.broken told; loaded = c.in-Ok-load_rules.ensures.loaded told }))
+    (opens _ c.args.tess.now c.args.kind c.args.rules.now kinds a k ask serves) in
     (c.in-Ok-load_rules.ensures.kinds ∙ found.0, found.1, found.2)

@@ -1,7 +1,6 @@
 use Rattle.std.proofs.Common.{◌≡◌, ℕ, ◌<◌, ◌≤◌, List, Err, length, rules, sym, ◌∙◌, ap, subst}
 use Rattle.tile_model.specs.Tessellations.{TileKind}
 use Rattle.tile_model.specs.Walks.{type_of}
-use Rattle.walker_cli.specs.declared.answer.Answer.{Answer}
 use Rattle.walker_cli.specs.declared.answer.Answer.TheVariants.{LeadsTo}
 use Rattle.walker_cli.specs.Tasks.{TellType}
 use Rattle.walker_cli.specs.Due.{IsDue, no_tess, no_kind, type_told}

@@ -3,11 +3,10 @@ use Rattle.serde_json.specs.Data.{Data}
 use Rattle.tree_model.specs.Automata.{TreeAutomaton}
 use Rattle.tree_model.specs.Conditions.{IsAccepted}
 use Rattle.rules_file.specs.Spelling.{IsTextOf, IsRulesFile}
-use Rattle.rules_file.specs.Faults.{IsFirstFault}
 use Rattle.structure_check.specs.Broken.{IsFirstBroken}
 use Rattle.structure_check.proofs.First.{refutes}
 use Rattle.walker_cli.specs.declared.answer.Answer.{Answer}
-use Rattle.walker_cli.specs.declared.answer.Answer.TheVariants.{RulesSyntax, RulesShape, Broken}
+use Rattle.walker_cli.specs.declared.answer.Answer.TheVariants.{Broken}
 use Rattle.walker_cli.specs.declared.load.Refusal.TheVariants.{Answered}
 use Rattle.walker_cli.specs.Held.{Refused, Loaded, IsRules, rules_too_long, rules_syntax, rules_shape, rules_broken, rules_loaded}
 use Rattle.walker_cli.proofs.load.load_rules.Goals as goal

@@ -3,9 +3,8 @@ use Rattle.tess_text.specs.Grammar.{IsFirstBadLine}
 use Rattle.tess_text.specs.Spelling.{IsSpelling, IsRefused, IsFaultOf}
 use Rattle.tess_text.specs.declared.fault.TessFault.{TessFault}
 use Rattle.tess_text.specs.declared.fault.TessFault.TheVariants.{Line, Kinds}
-use Rattle.walker_cli.specs.declared.answer.Role.TheVariants.{Tess}
 use Rattle.walker_cli.specs.declared.answer.Answer.{Answer}
-use Rattle.walker_cli.specs.declared.answer.Answer.TheVariants.{FileTooLong, TessLine, TessKinds}
+use Rattle.walker_cli.specs.declared.answer.Answer.TheVariants.{TessLine, TessKinds}
 use Rattle.walker_cli.specs.declared.load.Refusal.TheVariants.{Answered}
 use Rattle.walker_cli.specs.Held.{Refused, IsTess, tess_too_long, tess_line, tess_kinds, tess_loaded}
 use Rattle.walker_cli.proofs.load.load_tess.Goals as goal

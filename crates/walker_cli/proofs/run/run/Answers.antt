@@ -1,6 +1,6 @@
 use Rattle.std.proofs.Common.{inl}
 use Rattle.walker_cli.specs.declared.status.Status.TheVariants.{Usage, FileTooLong, TessRefused, RulesText, NotAccepted}
-use Rattle.walker_cli.proofs.Ending.{exactly, done_row, type_row, accepted_row, no_form_row, fault_row, serves_some, answered_row, whole_row, lines_row, refusal_row, part_row, memory_row, silent_row, long_row}
+use Rattle.walker_cli.proofs.Ending.{exactly, done_row, type_row, accepted_row, no_form_row, fault_row, serves_some, no_stream, answered_row, whole_row, lines_row, refusal_row, part_row, memory_row, silent_row, long_row}
 use Rattle.walker_cli.proofs.run.run.Goals as goal
 
 pub returns-clause-type_told : goal.returns-clause-type_told
@@ -59,3 +59,6 @@ returns-clause-memory g c = λ told gives takes. memory_row _ _ _ _ _ _ _ _ _ c.
 
 pub returns-clause-silent : goal.returns-clause-silent
 returns-clause-silent g c = λ takes unasked want. silent_row _ _ _ _ _ _ _ _ _ c.carry_out_plan.ensures.ends takes unasked want
+
+pub returns-clause-stream_unread : goal.returns-clause-stream_unread
+returns-clause-stream_unread g c = λ unasked of_stream. no_stream _ _ _ _ _ _ _ _ _ c.carry_out_plan.ensures.ends unasked of_stream

@@ -1,8 +1,8 @@
-use Rattle.std.proofs.Common.{◌≡◌, List, ℕ, [], ◌∷◌, map, codes, rules, sym, ◌∙◌, ap, subst}
+use Rattle.std.proofs.Common.{◌≡◌, codes, rules}
 use Rattle.std.specs.String.{string_bytes}
 use Rattle.walker_cli.specs.Tasks.{RunSession}
 use Rattle.walker_cli.proofs.Lists.{five_words}
-use Rattle.walker_cli.proofs.Reading.{run_form, run_task, one_number}
+use Rattle.walker_cli.proofs.Reading.{run_form, run_task}
 use Rattle.walker_cli.proofs.words.read_run.Goals as goal
 
 pub returns-in-Some-clause-some : goal.returns-in-Some-clause-some

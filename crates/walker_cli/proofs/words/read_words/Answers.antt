@@ -1,4 +1,4 @@
-use Rattle.std.proofs.Common.{◌≡◌, List, ℕ, [], ◌∷◌, map, codes, rules, sym, ◌∙◌, ap, subst, Err}
+use Rattle.std.proofs.Common.{◌≡◌, codes, rules, ap, Err}
 use Rattle.std.specs.String.{string_bytes}
 use Rattle.walker_cli.specs.declared.words.WordsFault.TheVariants.{Usage}
 use Rattle.walker_cli.proofs.Lists.{three_words, four_words}
