@@ -7,7 +7,7 @@ use Rattle.cell_names.specs.Text.{NoDigit}
 pub decimal-one : (digit : ℕ) (tail : List ℕ) → digit < 10 → decimal digit ++ tail ≡ (48 + digit) ∷ tail
 decimal-one digit tail small = ap (λ (l : List ℕ). l ++ tail) (decimal_digit digit small)
 
-decimal-pair : (side tens units : ℕ) → side ≡ 10 * tens + units → 0 < tens → tens < 10 → units < 10 → decimal side ≡ (48 + tens) ∷ (48 + units) ∷ []
+pub decimal-pair : (side tens units : ℕ) → side ≡ 10 * tens + units → 0 < tens → tens < 10 → units < 10 → decimal side ≡ (48 + tens) ∷ (48 + units) ∷ []
 decimal-pair side tens units is some ten unit =
     let wide : side < 2 ^ 64 = omega arith in
     let long : 10 ≤ side = omega arith in

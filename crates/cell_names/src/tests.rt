@@ -1,5 +1,5 @@
 //! Names and their texts, compared with values from outside.
-use crate::{Name, NameFault, print_name, read_name};
+use crate::{Name, NameFault, print_name, read_name, write_name};
 use std::collections::{BTreeMap, HashMap};
 use std::test::Fail;
 
@@ -27,6 +27,21 @@ fn texts_are_read_and_printed(rt: HostRuntime) -> Result<(), Fail> {
     ] {
         let fault = read_name(alloc, text.as_bytes()).err();
         assert_eq!(rt; fault, Some(NameFault::Text), "{text}");
+    }
+    Ok(())
+}
+
+#[test]
+fn texts_are_appended(rt: HostRuntime) -> Result<(), Fail> {
+    let alloc = rt.alloc();
+    let mut out = Vec::from_slice(alloc, b"at ")?;
+    for (text, want) in [
+        ("-", "at -"),
+        ("9", "at -9"),
+        ("10.63.0.9.60", "at -910.63.0.9.60"),
+    ] {
+        write_name(&mut out, &read_name(alloc, text.as_bytes())?)?;
+        assert_eq!(rt; out.as_slice(), want.as_bytes(), "{text}");
     }
     Ok(())
 }

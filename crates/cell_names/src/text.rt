@@ -1,9 +1,8 @@
 //! The text of a name: `-` for the root, else its sides joined by `.`.
-ghost use Rattle.std.specs.Prelude.{◌≡◌, ◌≢◌, ℕ, ◌+◌, ◌<◌, ◌≤◌, List, ◌∷◌, ◌++◌, length, codes, decimal, Err, IfSome, IfNone, IfOk, IsSomeAnd, IsErrOf, MatchResult, ◌⊎◌};
+ghost use Rattle.std.specs.Prelude.{◌≡◌, ◌≢◌, ℕ, ◌+◌, ◌<◌, ◌≤◌, List, ◌∷◌, ◌++◌, length, codes, decimal, Err, IfSome, IfNone, IfOk, OnOk, OnErr, IsSomeAnd, IsErrOf, MatchResult, ◌⊎◌, vec_len, vec_capacity};
 ghost use Rattle.cell_names.specs.Text.{name_text, IsSpelling, NoDigit};
 
 use crate::Name;
-use itoa::Buffer;
 use std::alloc::{AllocError, Global};
 use thiserror::Error;
 
@@ -39,16 +38,47 @@ impl From<AllocError> for NameFault {
 pub fn print_name(alloc: Global, name: &Name) -> Result<Vec<u8>, AllocError>
     ensures { IfOk result (λ text. text.items ≡ name_text name.now) }
 {
-    let Some((first, others)) = name.sides().split_first() else {
-        return Vec::from_slice(alloc, b"-");
-    };
-    let mut buffer = Buffer::new();
-    let mut text = Vec::from_slice(alloc, buffer.format(*first).as_bytes())?;
-    for side in others {
-        text.push(b'.')?;
-        text.extend_from_slice(buffer.format(*side).as_bytes())?;
-    }
+    let mut text = Vec::new(alloc);
+    write_name(&mut text, name)?;
     Ok(text)
+}
+
+/// Appends the text of a name of any length. Out of memory the bytes are as they were.
+pub fn write_name(out: &mut Vec<u8>, name: &Name) -> Result<(), AllocError>
+    ensures written { OnOk result (out.new.items ≡ out.old.items ++ name_text name.now) }
+    ensures unchanged { OnErr result (out.new.items ≡ out.old.items) }
+{
+    let Some((first, others)) = name.sides().split_first() else {
+        return out.extend_from_slice(b"-");
+    };
+    // Two digits and a dot a side. All the room is taken here, so that no byte below has to ask for more.
+    let Some(room) = name.len().checked_mul(3) else {
+        return Err(AllocError);
+    };
+    out.reserve(room)?;
+    put_side(out, *first);
+    for side in others {
+        out.push_reserved(b'.');
+        put_side(out, *side);
+    }
+    Ok(())
+}
+
+/// Appends the digits of a side where there is room for two.
+#[inline(always)]
+fn put_side(out: &mut Vec<u8>, side: u8)
+    requires below { side < 64 }
+    requires room { vec_len out.old + 2 ≤ vec_capacity out.old }
+    ensures written { out.new.items ≡ out.old.items ++ decimal side }
+    ensures len { vec_len out.new ≤ vec_len out.old + 2 }
+    ensures capacity { vec_capacity out.new ≡ vec_capacity out.old }
+{
+    if side < 10 {
+        out.push_reserved(b'0' + side);
+        return;
+    }
+    out.push_reserved(b'0' + side / 10);
+    out.push_reserved(b'0' + side % 10);
 }
 
 /// Reads the text of a name of at most 4,000 sides, each from 0 to 63 in digits without leading zeros.

@@ -7,7 +7,7 @@ ghost use Rattle.command_text.specs.Lines.{space, IsWalker, IsSpelling};
 ghost use Rattle.command_text.specs.Words.{IsInFront, LacksSpace};
 
 use reply_model::Command;
-use std::alloc::{AllocError, Global};
+use std::alloc::Global;
 use thiserror::Error;
 use walk_words::{Walk, WalkFault, read_walk};
 
@@ -32,17 +32,6 @@ pub enum LineFault {
     /// There is no memory for the command.
     #[error("out of memory")]
     Memory,
-}
-
-impl From<AllocError> for LineFault {
-    ghost use Rattle.std.specs.Prelude.{◌≡◌};
-    ghost use Rattle.command_text.specs.declared.command.LineFault.TheVariants.{Memory};
-
-    ghost from_gives = { λ _ fault. fault ≡ Memory };
-
-    fn from(_: AllocError) -> LineFault {
-        LineFault::Memory
-    }
 }
 
 /// Reads the line of a command, without its line feed.

@@ -3,7 +3,7 @@ ghost use Rattle.std.specs.Prelude.{◌≡◌, ℕ, List, [], ◌∷◌, ◌++�
 ghost use Rattle.cell_names.specs.Text.{name_text};
 ghost use Rattle.command_text.specs.Replies.{Begins, line_feed, place_words, reply_text};
 
-use cell_names::Name;
+use cell_names::{Name, write_name};
 use itoa::Buffer;
 use reply_model::Reply;
 use std::alloc::{AllocError, Global};
@@ -66,7 +66,7 @@ fn append_place(out: &mut Vec<u8>, name: &Name, spin: u8, kind: u8) -> Result<()
     ensures kept { OnErr result (Begins out.new.items out.old.items) }
 {
     out.extend_from_slice(b"at ")?;
-    append_name(out, name)?;
+    write_name(out, name)?;
     append_number(out, b' ', spin)?;
     append_number(out, b' ', kind)?;
     out.push(b'\n')?;
@@ -81,20 +81,4 @@ fn append_number(out: &mut Vec<u8>, separator: u8, number: u8) -> Result<(), All
     let mut buffer = Buffer::new();
     out.push(separator)?;
     out.extend_from_slice(buffer.format(number).as_bytes())
-}
-
-/// Appends the text of a name, or some bytes.
-fn append_name(out: &mut Vec<u8>, name: &Name) -> Result<(), AllocError>
-    ensures written { OnOk result (out.new.items ≡ out.old.items ++ name_text name.now) }
-    ensures kept { OnErr result (Begins out.new.items out.old.items) }
-{
-    let Some((first, others)) = name.sides().split_first() else {
-        return out.extend_from_slice(b"-");
-    };
-    let mut buffer = Buffer::new();
-    out.extend_from_slice(buffer.format(*first).as_bytes())?;
-    for side in others {
-        append_number(out, b'.', *side)?;
-    }
-    Ok(())
 }

@@ -6,7 +6,8 @@ use Rattle.reply_model.specs.declared.Command.{Command}
 use Rattle.reply_model.specs.declared.Reply.{Reply}
 use Rattle.command_text.specs.Lines.{IsSpelling}
 use Rattle.command_text.specs.Replies.{line_feed, reply_text}
-use Rattle.session_core.specs.Sessions.{SessionState, StandsFor, IsDue}
+use Rattle.session_core.specs.Sessions.{SessionState}
+use Rattle.session_core.specs.WalkSessions.{StandsForWalks, IsDueOverWalks}
 use Rattle.line_server.specs.Lines.{most_of_line}
 use Rattle.line_server.specs.Outputs.{History, IsAnswered, too_long, empty, bad, replied}
 use Rattle.line_server.specs.Sessions.{Continues, AnswersLine}
@@ -33,7 +34,7 @@ nothing [] none = refl
 nothing (byte ∷ bytes) none = absurd (omega (arith, none))
 
 -- a session that stays as it is, and says this to the line
-stays : (s : SessionState) (line text answer : List ℕ) → ((before : History) → IsAnswered (IsDue s) before line text answer before) → AnswersLine s s line text answer
+stays : (s : SessionState) (line text answer : List ℕ) → ((before : History) → IsAnswered (IsDueOverWalks s) before line text answer before) → AnswersLine s s line text answer
 stays s line text answer said = record { rules = refl; kind = refl; stands = λ before stands. (before, said before, stands) }
 
 pub says_too_long : (s : SessionState) (line text before after : List ℕ) → most_of_line < length line → after ≡ before ++ (codes "too long" ++ line_feed) → HasReplied s line text before s after
@@ -45,7 +46,7 @@ says_nothing s line text before short none = record { answer = []; appended = sy
 pub says_bad : (s : SessionState) (line text before after : List ℕ) → length line ≤ most_of_line → text ≢ [] → ((c : Command) → ¬ IsSpelling text c) → after ≡ before ++ (codes "bad" ++ line_feed) → HasReplied s line text before s after
 says_bad s line text before after short some unspelt e = record { answer = codes "bad" ++ line_feed; appended = e; session = stays s line text _ (λ h. bad short some unspelt) }
 
-pub replies : (old new : SessionState) (line text before after : List ℕ) (c : Command) (x : Reply) → length line ≤ most_of_line → IsSpelling text c → ((history : History) → StandsFor old history → IsDue old history c x) → ((history : History) → StandsFor old history → StandsFor new (history ++ (c, x) ∷ [])) → new.rules ≡ old.rules → new.kind ≡ old.kind → after ≡ before ++ reply_text x → HasReplied old line text before new after
+pub replies : (old new : SessionState) (line text before after : List ℕ) (c : Command) (x : Reply) → length line ≤ most_of_line → IsSpelling text c → ((history : History) → StandsForWalks old history → IsDueOverWalks old history c x) → ((history : History) → StandsForWalks old history → StandsForWalks new (history ++ (c, x) ∷ [])) → new.rules ≡ old.rules → new.kind ≡ old.kind → after ≡ before ++ reply_text x → HasReplied old line text before new after
 replies old new line text before after c x short spelt due stands rules kind e = record {
   answer = reply_text x;
   appended = e;

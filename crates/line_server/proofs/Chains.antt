@@ -4,8 +4,9 @@ use Rattle.std.proofs.lemmas.List.{append_assoc, append-nil}
 use Rattle.reply_model.specs.declared.Command.{Command}
 use Rattle.reply_model.specs.declared.Reply.{Reply}
 use Rattle.structure_check.specs.Rules.{TreeRules}
-use Rattle.reply_model.specs.Readings.{IsTreeReply}
-use Rattle.session_core.specs.Sessions.{SessionState, StandsFor, IsDue}
+use Rattle.reply_model.specs.WalkReadings.{IsWalkReply}
+use Rattle.session_core.specs.Sessions.{SessionState}
+use Rattle.session_core.specs.WalkSessions.{StandsForWalks, IsDueOverWalks}
 use Rattle.line_server.specs.Lines.{feed, ended, text_of}
 use Rattle.line_server.specs.Outputs.{History, IsAnswered, AreAnswered, none, next}
 use Rattle.line_server.specs.Sessions.{Continues, AnswersLine, AnswersLines}
@@ -25,9 +26,9 @@ module _ (Due : History → Command → Reply → Type 0) where
 
 -- what is due in a session hangs on its rules and its kind alone
 abbrev due_by : TreeRules → ℕ → History → Command → Reply → Type 0
-due_by rules k history c x = IsTreeReply rules.kinds rules.automaton k history c x
+due_by rules k history c x = IsWalkReply rules.kinds rules.automaton k history c x
 
-pub due_stays : (P : (History → Command → Reply → Type 0) → Type 0) (s t : SessionState) → t.rules ≡ s.rules → t.kind ≡ s.kind → P (IsDue t) → P (IsDue s)
+pub due_stays : (P : (History → Command → Reply → Type 0) → Type 0) (s t : SessionState) → t.rules ≡ s.rules → t.kind ≡ s.kind → P (IsDueOverWalks t) → P (IsDueOverWalks s)
 due_stays P s t e f p = subst (λ k. P (due_by s.rules k)) f (subst (λ r. P (due_by r t.kind)) e p)
 
 -- lines and then more lines
@@ -38,14 +39,14 @@ answers_then s t u lines more answers others a b = record {
   stands = λ before here.
       let first = a.stands before here in
       let second = b.stands first.0 first.2 in
-      (second.0, answers_append (IsDue s) first.0 second.0 more others first.1 (due_stays (λ Due. AreAnswered Due first.0 more others second.0) s t a.rules a.kind second.1), second.2);
+      (second.0, answers_append (IsDueOverWalks s) first.0 second.0 more others first.1 (due_stays (λ Due. AreAnswered Due first.0 more others second.0) s t a.rules a.kind second.1), second.2);
 }
 
 pub line_alone : (s t : SessionState) (line answer : List ℕ) → AnswersLine s t line (text_of line) answer → AnswersLines s t (line ∷ []) answer
 line_alone s t line answer a = record {
   rules = a.rules;
   kind = a.kind;
-  stands = λ before here. let one = a.stands before here in (one.0, one_answer (IsDue s) before one.0 line answer one.1, one.2);
+  stands = λ before here. let one = a.stands before here in (one.0, one_answer (IsDueOverWalks s) before one.0 line answer one.1, one.2);
 }
 
 pub no_lines : (s : SessionState) → AnswersLines s s [] []

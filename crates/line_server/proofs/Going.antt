@@ -7,7 +7,8 @@ use Rattle.std.proofs.lemmas.Bool.{false≢true}
 use Rattle.std.proofs.lemmas.List.{append_assoc, append-nil, length-append}
 use Rattle.std.proofs.lemmas.List.Elements.{All-nil, All-push, All-append}
 use Rattle.way_io.specs.Pieces.{IsSent, AppendsPrefix}
-use Rattle.session_core.specs.Sessions.{SessionState, StandsFor, IsDue}
+use Rattle.session_core.specs.Sessions.{SessionState}
+use Rattle.session_core.specs.WalkSessions.{StandsForWalks, IsDueOverWalks}
 use Rattle.line_server.specs.Lines.{feed, LacksFeed, AreCut, ended, text_of}
 use Rattle.line_server.specs.Outputs.{History, AreAnswered}
 use Rattle.line_server.specs.Sessions.{AnswersLines}
@@ -103,7 +104,7 @@ module _ (tells : Bool) (old : SessionState) (dropped bytes taken : List ℕ) wh
         };
       }
 
-  due : (now : SessionState) (lines : List (List ℕ)) (answers : List ℕ) → AnswersLines old now lines answers → (before : History) → StandsFor old before → (after : History) × AreAnswered (IsDue old) before lines answers after
+  due : (now : SessionState) (lines : List (List ℕ)) (answers : List ℕ) → AnswersLines old now lines answers → (before : History) → StandsForWalks old before → (after : History) × AreAnswered (IsDueOverWalks old) before lines answers after
   due now lines answers a before here = let it = a.stands before here in (it.0, it.1)
 
   -- a write failed on the way

@@ -7,3 +7,6 @@ pub mod LastLine
 pub mod Serving
 pub mod Ends
 pub mod Pieces
+pub mod Once
+pub mod OneOutput
+pub mod SameOutput

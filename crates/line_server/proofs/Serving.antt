@@ -4,7 +4,8 @@ use Rattle.std.specs.List.{All}
 use Rattle.std.proofs.lemmas.List.{append_assoc, append-nil, length-append}
 use Rattle.std.proofs.lemmas.List.Elements.{All-nil, All-append}
 use Rattle.way_io.specs.Pieces.{IsSent, AppendsPrefix}
-use Rattle.session_core.specs.Sessions.{SessionState, StandsFor, IsDue}
+use Rattle.session_core.specs.Sessions.{SessionState}
+use Rattle.session_core.specs.WalkSessions.{StandsForWalks, IsDueOverWalks}
 use Rattle.line_server.specs.declared.reader.Reader.{Reader}
 use Rattle.line_server.specs.declared.reader.Stop.{Stop}
 use Rattle.line_server.specs.declared.reader.Stop.TheVariants.{Memory}
@@ -92,7 +93,7 @@ module _ (gives takes : Bool) (old : SessionState) (left taken : List ℕ) where
     }
 
     -- what was written of the whole lines
-    lines_output : Continues old now (λ before after. IsLinesOutput (IsDue old) before s.bytes s.answers after)
+    lines_output : Continues old now (λ before after. IsLinesOutput (IsDueOverWalks old) before s.bytes s.answers after)
     lines_output = record {
       rules = s.session.rules;
       kind = s.session.kind;
@@ -106,7 +107,7 @@ module _ (gives takes : Bool) (old : SessionState) (left taken : List ℕ) where
     over_end more left'' next full some = ends_over s.bytes more s.answers (λ t. s.read t ∙ ap (λ l. s.bytes ++ l) (next t)) (s.count ∙ full) some lines_output s.written
 
     -- the output up to the last line feed, and what answers the rest
-    whole_output : (new : SessionState) (answer : List ℕ) → AnswersLine now new s.line s.line answer → Continues old new (λ before after. IsOutput (IsDue old) before s.bytes (s.answers ++ answer) after)
+    whole_output : (new : SessionState) (answer : List ℕ) → AnswersLine now new s.line s.line answer → Continues old new (λ before after. IsOutput (IsDueOverWalks old) before s.bytes (s.answers ++ answer) after)
     whole_output new answer a = record {
       rules = a.rules ∙ s.session.rules;
       kind = a.kind ∙ s.session.kind;
@@ -165,7 +166,7 @@ module _ (gives takes : Bool) (old : SessionState) (left taken : List ℕ) where
         let first = s.session.stands before here in
         let second = h.due first.0 first.2 in
         of_lines (ended lines) (h.rest ++ (more ++ left'')) (s.answers ++ h.answers) second.0 (front t) (omega (arith, counted, few))
-        (record { lines = lines; rest = []; cut = record { split = sym (append-nil (ended lines)); whole = All-append LacksFeed s.lines h.lines s.cut.whole h.whole; open_end = All-nil (λ byte. byte ≡ feed → ⊥) }; answers = answers_append (IsDue old) first.0 second.0 h.lines h.answers first.1 (due_stays (λ Due. AreAnswered Due first.0 h.lines h.answers second.0) old now s.session.rules s.session.kind second.1) }))
+        (record { lines = lines; rest = []; cut = record { split = sym (append-nil (ended lines)); whole = All-append LacksFeed s.lines h.lines s.cut.whole h.whole; open_end = All-nil (λ byte. byte ≡ feed → ⊥) }; answers = answers_append (IsDueOverWalks old) first.0 second.0 h.lines h.answers first.1 (due_stays (λ Due. AreAnswered Due first.0 h.lines h.answers second.0) old now s.session.rules s.session.kind second.1) }))
         (behind_answers taken'' h.answers h.written)
 
   -- there is no memory to begin with

@@ -4,3 +4,4 @@ pub mod Endings
 pub mod Sessions
 pub mod Readers
 pub mod Serving
+pub mod Laws

@@ -1,26 +1,27 @@
 -- What a session goes through while it answers lines.
 use Rattle.std.specs.Prelude.{◌≡◌, ℕ, List, ◌++◌}
-use Rattle.session_core.specs.Sessions.{SessionState, StandsFor, IsDue}
+use Rattle.session_core.specs.Sessions.{SessionState}
+use Rattle.session_core.specs.WalkSessions.{StandsForWalks, IsDueOverWalks}
 use Rattle.line_server.specs.Outputs.{History, IsAnswered, AreAnswered}
 
 -- The session keeps its rules and its kind. For each history that it stood for before, it stands afterwards for one to which `Step` leads.
 pub record Continues (old new : SessionState) (Step : History → History → Type 0) : Type 0 where
   pub rules : new.rules ≡ old.rules
   pub kind : new.kind ≡ old.kind
-  pub stands : (before : History) → StandsFor old before → (after : History) × Step before after × StandsFor new after
+  pub stands : (before : History) → StandsForWalks old before → (after : History) × Step before after × StandsForWalks new after
 
 -- the session answered a line with this text
 abbrev pub AnswersLine : SessionState → SessionState → (line text answer : List ℕ) → Type 0
-AnswersLine old new line text answer = Continues old new (λ before after. IsAnswered (IsDue old) before line text answer after)
+AnswersLine old new line text answer = Continues old new (λ before after. IsAnswered (IsDueOverWalks old) before line text answer after)
 
 -- the session answered lines that line feeds end
 abbrev pub AnswersLines : SessionState → SessionState → List (List ℕ) → (answers : List ℕ) → Type 0
-AnswersLines old new lines answers = Continues old new (λ before after. AreAnswered (IsDue old) before lines answers after)
+AnswersLines old new lines answers = Continues old new (λ before after. AreAnswered (IsDueOverWalks old) before lines answers after)
 
 -- this answer is due to a line with this text that ends the stream, after each history that the session stands for
 abbrev pub DuesLine : SessionState → (line answer : List ℕ) → Type 0
-DuesLine old line answer = (before : History) → StandsFor old before → (after : History) × IsAnswered (IsDue old) before line line answer after
+DuesLine old line answer = (before : History) → StandsForWalks old before → (after : History) × IsAnswered (IsDueOverWalks old) before line line answer after
 
 -- these answers are due to these lines
 abbrev pub DuesLines : SessionState → List (List ℕ) → (answers : List ℕ) → Type 0
-DuesLines old lines answers = (before : History) → StandsFor old before → (after : History) × AreAnswered (IsDue old) before lines answers after
+DuesLines old lines answers = (before : History) → StandsForWalks old before → (after : History) × AreAnswered (IsDueOverWalks old) before lines answers after

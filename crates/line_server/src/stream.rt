@@ -1,7 +1,7 @@
 //! The stream from its source to its sink.
 ghost use Rattle.std.specs.Prelude.{◌≡◌, ◌≤◌, ◌<◌, ◌⊎◌, ◌++◌, [], ℕ, List, length, IsTrue};
 ghost use Rattle.way_io.specs.Counts.{Rose};
-ghost use Rattle.session_core.specs.Sessions.{StandsFor, IsDue};
+ghost use Rattle.session_core.specs.WalkSessions.{StandsForWalks, IsDueOverWalks};
 ghost use Rattle.line_server.specs.Lines.{most_of_stream};
 ghost use Rattle.line_server.specs.Outputs.{History};
 ghost use Rattle.line_server.specs.Sessions.{Continues};
@@ -43,17 +43,16 @@ pub fn serve<I: Source, O: Sink>(
     out: &mut O,
 ) -> Ending
     // What stands at each ending, after each history for which the session stood. The session stands then for a longer one.
-    ensures done { IsTrue I.tells → IsTrue O.tells → result ≡ Ending.Done → Continues session.old session.new (λ before after. IsServed (IsDue session.old) before (I.left input.old) (I.left input.new) (O.taken out.old) (O.taken out.new) after) }
-    ensures read_fault { IsTrue I.tells → IsTrue O.tells → result ≡ Ending.ReadFault → Continues session.old session.new (λ before after. IsCutOff (IsDue session.old) before (I.left input.old) (I.left input.new) (O.taken out.old) (O.taken out.new) after) }
-    ensures input_too_long { IsTrue I.tells → IsTrue O.tells → result ≡ Ending.InputTooLong → Continues session.old session.new (λ before after. IsOverrun (IsDue session.old) before (I.left input.old) (O.taken out.old) (O.taken out.new) after) }
-    ensures begun { IsTrue I.tells → IsTrue O.tells → (before : History) → StandsFor session.old before → IsBegun (IsDue session.old) before (I.left input.old) (O.taken out.old) (O.taken out.new) }
+    ensures done { IsTrue I.tells → IsTrue O.tells → result ≡ Ending.Done → Continues session.old session.new (λ before after. IsServed (IsDueOverWalks session.old) before (I.left input.old) (I.left input.new) (O.taken out.old) (O.taken out.new) after) }
+    ensures read_fault { IsTrue I.tells → IsTrue O.tells → result ≡ Ending.ReadFault → Continues session.old session.new (λ before after. IsCutOff (IsDueOverWalks session.old) before (I.left input.old) (I.left input.new) (O.taken out.old) (O.taken out.new) after) }
+    ensures input_too_long { IsTrue I.tells → IsTrue O.tells → result ≡ Ending.InputTooLong → Continues session.old session.new (λ before after. IsOverrun (IsDueOverWalks session.old) before (I.left input.old) (O.taken out.old) (O.taken out.new) after) }
+    ensures begun { IsTrue I.tells → IsTrue O.tells → (before : History) → StandsForWalks session.old before → IsBegun (IsDueOverWalks session.old) before (I.left input.old) (O.taken out.old) (O.taken out.new) }
 
     // Why it ended so. Of a read or a write that failed the count of faults tells.
     ensures ended { IsTrue I.tells → result ≡ Ending.Done → (I.left input.new ≡ []) × (length (I.left input.old) ≤ most_of_stream) }
     ensures overrun { IsTrue I.tells → result ≡ Ending.InputTooLong → most_of_stream < length (I.left input.old) }
     ensures read_cause { result ≡ Ending.ReadFault → Rose (I.faults input.old) (I.faults input.new) }
     ensures write_cause { result ≡ Ending.WriteFault → Rose (O.faults out.old) (O.faults out.new) }
-
     ensures unbroken { result ≡ Ending.InputTooLong → O.faults out.new ≡ O.faults out.old }
 
     // No byte is lost or doubled, and what was written stays.

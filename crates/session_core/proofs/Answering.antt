@@ -1,5 +1,5 @@
 -- Replies that are due: they depend on a history by its walkers and their walks alone, and a command has one of them.
-use Rattle.std.proofs.Common.{◌≡◌, ℕ, ◌<◌, ◌==◌, ◌⊎◌, inl, inr, List, [], ◌∷◌, ◌++◌, length, refl, sym, ap, ap₂, ◌∙◌, subst, append_assoc, ne_eqb}
+use Rattle.std.proofs.Common.{◌≡◌, ℕ, ◌<◌, ◌==◌, ◌⊎◌, inl, inr, List, [], ◌∷◌, ◌++◌, length, refl, sym, ap, ap₂, subst, append_assoc, ne_eqb}
 use Rattle.std.proofs.lemmas.Bool.{cond-false}
 use Rattle.tile_model.specs.declared.Letter.{Letter}
 use Rattle.tile_model.specs.Tessellations.{TileKind}
@@ -10,11 +10,10 @@ use Rattle.tree_model.specs.Names.{state_of}
 use Rattle.tree_model.specs.Positions.{Position, root}
 use Rattle.turn_rules.proofs.Walking.{leads_same}
 use Rattle.reply_model.specs.declared.Command.{Command}
-use Rattle.reply_model.specs.declared.Command.TheVariants.{New, Go, At, Same}
 use Rattle.reply_model.specs.declared.Reply.{Reply}
-use Rattle.reply_model.specs.declared.Reply.TheVariants.{Done, At as AtPlace, Yes, No, NoWalker, Taken, Deep}
+use Rattle.reply_model.specs.declared.Reply.TheVariants.{At as AtPlace}
 use Rattle.reply_model.specs.Histories.{Exists, letters_for, walk_of}
-use Rattle.reply_model.specs.Replies.{GoesDeep, IsReply, new_taken, new_made, go_nobody, go_deep, go_gone, at_nobody, at_place, same_nobody, same_tile, other_tile}
+use Rattle.reply_model.specs.Replies.{GoesDeep, new_taken, new_made, go_nobody, go_deep, go_gone, at_nobody, at_place, same_nobody, same_tile, other_tile}
 use Rattle.reply_model.specs.Readings.{LeadsTo, LeadToOneName, LeadsDeep, IsTreeReply}
 use Rattle.session_core.specs.Sessions.{AreDue}
 use Rattle.session_core.proofs.Events.{Event, exists_front, push_cases}

@@ -1,6 +1,6 @@
 -- What the calls of a session come to, by the spots that they look up and leave behind.
 use Rattle.std.proofs.Common.{◌≡◌, ℕ, zero, suc, ◌<◌, ◌⊎◌, inl, inr, true, false, List, [], ◌∷◌, ◌++◌, length, replicate, set, get_or, refl, sym, ap, ◌∙◌, subst, arith, true≢false}
-use Rattle.std.specs.Prelude.{Option, None, Some, is_some, IsSome, MatchOption, Result, Ok, Err, IfOk, IsErrOf}
+use Rattle.std.specs.Prelude.{Option, None, Some, is_some, IsSome, MatchOption, Result, Ok, Err, IfOk, OnErr, IsErrOf}
 use Rattle.std.proofs.lemmas.Bool.{false≢true}
 use Rattle.std.proofs.lemmas.List.{get_or_default, set-get_or, length-replicate}
 use Rattle.tile_model.specs.declared.Letter.{Letter}
@@ -12,14 +12,16 @@ use Rattle.step_engine.specs.Crossings.{WalksDeep, LeadsTo}
 use Rattle.step_engine.specs.declared.fault.StepFault.{StepFault}
 use Rattle.step_engine.specs.declared.fault.StepFault.TheVariants.{Deep as TooDeep, Memory}
 use Rattle.reply_model.specs.declared.Command.{Command}
-use Rattle.reply_model.specs.declared.Command.TheVariants.{New, Go, At, Same}
+use Rattle.reply_model.specs.declared.Command.TheVariants.{New, Go, At}
 use Rattle.reply_model.specs.declared.Reply.{Reply}
 use Rattle.reply_model.specs.declared.Reply.TheVariants.{Done, At as AtPlace, NoWalker, Deep}
-use Rattle.reply_model.specs.Histories.{Exists}
 use Rattle.reply_model.specs.Readings.{deepest}
-use Rattle.session_core.specs.Sessions.{SessionState, walker_at, IsWalker, IsSession, StandsFor, IsDue, HasAnswered}
-use Rattle.session_core.proofs.Steps.{Does, HasGone, with_walker, made, go_nobody, stopped, gone, at_spot}
+use Rattle.session_core.specs.Sessions.{SessionState, walker_at, IsWalker, IsSession, StandsFor, IsDue}
+use Rattle.session_core.specs.WalkSessions.{StandsForWalks, IsDueOverWalks}
+use Rattle.session_core.specs.Answered.{HasAnswered}
+use Rattle.session_core.proofs.Steps.{with_walker, made, go_nobody, stopped, gone, at_spot}
 use Rattle.session_core.proofs.Between.{none_due}
+use Rattle.session_core.proofs.BothReadings.{nothing_due}
 use Rattle.session_core.proofs.Depth.{has_gone}
 use Rattle.session_core.proofs.Standing.{answered, put_session}
 
@@ -63,22 +65,18 @@ module _ (s : SessionState) (sound : AreSound s.rules) (is : IsSession s) (w : �
   pub made_session : (q : TreeSpot) → IsAt s.rules s.kind root q → IsSession (with_walker s w q)
   made_session q at = put_session s w q below is (walker_made q at)
 
-  -- a walk of nobody, one that was stopped, and one that was gone by a copy of the walker's spot
+  -- a walk of nobody, one that was stopped, and one that was gone
   pub nobody_goes : (u : List Letter) → walker_at s w ≡ None → HasAnswered s (Go w u) NoWalker s
   nobody_goes u none = answered s (Go w u) NoWalker s sound is below (go_nobody w u none)
 
-  pub has_stopped : (u : List Letter) (p copy : TreeSpot) → walker_at s w ≡ Some p → copy ≡ p → WalksDeep s.rules copy u deepest → HasAnswered s (Go w u) Deep s
-  has_stopped u p copy some e d = answered s (Go w u) Deep s sound is below (stopped w u p some (subst (λ q. WalksDeep s.rules q u deepest) e d))
+  pub has_stopped : (u : List Letter) (p : TreeSpot) → walker_at s w ≡ Some p → WalksDeep s.rules p u deepest → HasAnswered s (Go w u) Deep s
+  has_stopped u p some d = answered s (Go w u) Deep s sound is below (stopped w u p some d)
 
-  arrives : (u : List Letter) (p copy t : TreeSpot) → walker_at s w ≡ Some p → copy ≡ p → IsSpot s.rules t → root_kind s.rules t ≡ root_kind s.rules copy → LeadsTo s.rules copy u (position t) → (WalksDeep s.rules copy u deepest → ⊥) → HasGone s p t u
-  arrives u p copy t some e spot tree leads near =
-      has_gone s p t u (is.spots w p some) spot (tree ∙ ap (root_kind s.rules) e) (subst (λ q. LeadsTo s.rules q u (position t)) e leads) (λ d. near (subst (λ q. WalksDeep s.rules q u deepest) (sym e) d))
+  pub has_moved : (u : List Letter) (p t : TreeSpot) → walker_at s w ≡ Some p → IsSpot s.rules t → root_kind s.rules t ≡ root_kind s.rules p → LeadsTo s.rules p u (position t) → (WalksDeep s.rules p u deepest → ⊥) → HasAnswered s (Go w u) Done (with_walker s w t)
+  has_moved u p t some spot tree leads near = answered s (Go w u) Done (with_walker s w t) sound is below (gone w u p t some (has_gone s p t u (is.spots w p some) spot tree leads near))
 
-  pub has_moved : (u : List Letter) (p copy t : TreeSpot) → walker_at s w ≡ Some p → copy ≡ p → IsSpot s.rules t → root_kind s.rules t ≡ root_kind s.rules copy → LeadsTo s.rules copy u (position t) → (WalksDeep s.rules copy u deepest → ⊥) → HasAnswered s (Go w u) Done (with_walker s w t)
-  has_moved u p copy t some e spot tree leads near = answered s (Go w u) Done (with_walker s w t) sound is below (gone w u p t some (arrives u p copy t some e spot tree leads near))
-
-  pub moved_session : (u : List Letter) (p copy t : TreeSpot) → walker_at s w ≡ Some p → copy ≡ p → IsSpot s.rules t → root_kind s.rules t ≡ root_kind s.rules copy → LeadsTo s.rules copy u (position t) → (WalksDeep s.rules copy u deepest → ⊥) → IsSession (with_walker s w t)
-  moved_session u p copy t some e spot tree leads near = put_session s w t below is (arrives u p copy t some e spot tree leads near).walker
+  pub moved_session : (u : List Letter) (p t : TreeSpot) → walker_at s w ≡ Some p → IsSpot s.rules t → root_kind s.rules t ≡ root_kind s.rules p → LeadsTo s.rules p u (position t) → (WalksDeep s.rules p u deepest → ⊥) → IsSession (with_walker s w t)
+  moved_session u p t some spot tree leads near = put_session s w t below is (has_gone s p t u (is.spots w p some) spot tree leads near).walker
 
   -- where the walker stands, told by the parts of its spot
   pub has_told : (p : TreeSpot) (r : TreeRules) (n : List ℕ) (i j : ℕ) → walker_at s w ≡ Some p → r ≡ s.rules → n ≡ p.name → i ≡ p.spin → j ≡ (state_at r.automaton (tile_state r p)).kind → HasAnswered s (At w) (AtPlace n i j) s
@@ -94,6 +92,17 @@ was_deep r f e g = e ∙ ap Err g
 pub was_not_deep : (r : Result (Unit {0}) StepFault) (x : Unit {0}) → r ≡ Ok x → IsErrOf r TooDeep ⊎ IsErrOf r Memory → ⊥
 was_not_deep r x e (inl f) = absurd (cc)
 was_not_deep r x e (inr f) = absurd (cc)
+
+-- what stands after any fault of a walk
+pub stayed : {P : Type 0} (r : Result (Unit {0}) StepFault) (f : StepFault) → r ≡ Err f → OnErr r P → P
+stayed {P} r f e s = subst (λ (r : Result (Unit {0}) StepFault). OnErr r P) e s
+
+-- the answer of a call that has one, and of one that has none
+pub told : {E : Type 0} (old new : SessionState) (c : Command) (x : Reply) (r : Result Reply E) → r ≡ Ok x → HasAnswered old c x new → IfOk r (λ x. HasAnswered old c x new)
+told {E} old new c x r e a = subst (λ (r : Result Reply E). IfOk r (λ x. HasAnswered old c x new)) (sym e) a
+
+pub untold : {E : Type 0} (old new : SessionState) (c : Command) (r : Result Reply E) (e : E) → r ≡ Err e → IfOk r (λ x. HasAnswered old c x new)
+untold {E} old new c r e f = subst (λ (r : Result Reply E). IfOk r (λ x. HasAnswered old c x new)) (sym f) tt
 
 -- a session without walkers
 abbrev nobody_here : Option TreeSpot
@@ -120,6 +129,13 @@ empty_stands s e = record {
   spots = λ w p f. absurd (no_spot s w p e f);
 }
 
+pub empty_stands_over_walks : (s : SessionState) → s.walkers ≡ replicate 64 None → StandsForWalks s []
+empty_stands_over_walks s e = record {
+  replies = nothing_due s;
+  walkers = (empty_stands s e).walkers;
+  spots = λ w p f. absurd (no_spot s w p e f);
+}
+
 -- what the answer of one command says of the call with this command
 module _ {E : Type 0} (old new : SessionState) (c d : Command) (r : Result Reply E) where
   pub answered_due : c ≡ d → IfOk r (λ x. HasAnswered old d x new) → IfOk r (λ x. (h : List (Command × Reply)) → StandsFor old h → IsDue old h c x)
@@ -134,6 +150,20 @@ module _ {E : Type 0} (old new : SessionState) (c d : Command) (r : Result Reply
     where
       stands : (r : Result Reply E) → IfOk r (λ x. HasAnswered old d x new) → IfOk r (λ x. (h : List (Command × Reply)) → StandsFor old h → StandsFor new (h ++ (c, x) ∷ []))
       stands (Ok x) a = subst (λ c. (h : List (Command × Reply)) → StandsFor old h → StandsFor new (h ++ (c, x) ∷ [])) (sym e) a.stands
+      stands (Err y) a = tt
+
+  pub answered_due_over_walks : c ≡ d → IfOk r (λ x. HasAnswered old d x new) → IfOk r (λ x. (h : List (Command × Reply)) → StandsForWalks old h → IsDueOverWalks old h c x)
+  answered_due_over_walks e a = due r a
+    where
+      due : (r : Result Reply E) → IfOk r (λ x. HasAnswered old d x new) → IfOk r (λ x. (h : List (Command × Reply)) → StandsForWalks old h → IsDueOverWalks old h c x)
+      due (Ok x) a = subst (λ c. (h : List (Command × Reply)) → StandsForWalks old h → IsDueOverWalks old h c x) (sym e) a.due_over_walks
+      due (Err y) a = tt
+
+  pub answered_stands_over_walks : c ≡ d → IfOk r (λ x. HasAnswered old d x new) → IfOk r (λ x. (h : List (Command × Reply)) → StandsForWalks old h → StandsForWalks new (h ++ (c, x) ∷ []))
+  answered_stands_over_walks e a = stands r a
+    where
+      stands : (r : Result Reply E) → IfOk r (λ x. HasAnswered old d x new) → IfOk r (λ x. (h : List (Command × Reply)) → StandsForWalks old h → StandsForWalks new (h ++ (c, x) ∷ []))
+      stands (Ok x) a = subst (λ c. (h : List (Command × Reply)) → StandsForWalks old h → StandsForWalks new (h ++ (c, x) ∷ [])) (sym e) a.stands_over_walks
       stands (Err y) a = tt
 
 -- the answer to a command that is known in another way

@@ -1,12 +1,12 @@
 -- What a command does to a session: the reply is the one that is due, and the session stands for the longer history.
-use Rattle.std.proofs.Common.{◌≡◌, ℕ, ◌<◌, ◌==◌, ◌↔◌, ◌⊎◌, inl, inr, true, false, List, [], ◌∷◌, ◌++◌, length, set, get_or, refl, sym, ap, ◌∙◌, subst, ⊎_elim, ne_eqb, eq-eqb, length-set, get_or-set_same, get_or-set_other}
-use Rattle.std.specs.Prelude.{Option, None, Some, is_some, IsSome, unwrap_or}
+use Rattle.std.proofs.Common.{◌≡◌, ℕ, ◌<◌, ◌==◌, ◌↔◌, inl, inr, List, [], ◌∷◌, ◌++◌, length, refl, sym, ap, ◌∙◌, subst, ⊎_elim, ne_eqb, eq-eqb, length-set, get_or-set_same, get_or-set_other}
+use Rattle.std.specs.Prelude.{None, Some, is_some, IsSome, unwrap_or}
 use Rattle.std.proofs.lemmas.Bool.{cases_eq, cond-true, cond-false, both_ways}
 use Rattle.tile_model.specs.declared.Letter.{Letter}
 use Rattle.tree_model.specs.Automata.{state_at}
 use Rattle.tree_model.specs.Names.{state_of}
 use Rattle.tree_model.specs.Positions.{Position, root, Leads}
-use Rattle.structure_check.specs.Rules.{TreeRules, AreSound}
+use Rattle.structure_check.specs.Rules.{AreSound}
 use Rattle.turn_rules.specs.Spots.{TreeSpot, position, tile_state}
 use Rattle.turn_rules.proofs.Walking.{leads_append, leads_same}
 use Rattle.reply_model.specs.declared.Command.{Command}
@@ -16,12 +16,15 @@ use Rattle.reply_model.specs.declared.Reply.TheVariants.{Done, At as AtPlace, Ye
 use Rattle.reply_model.specs.Histories.{Exists, letters_for, walk_of}
 use Rattle.reply_model.specs.Replies.{new_taken, new_made, go_nobody, go_deep, go_gone, at_nobody, at_place, same_nobody, same_tile, other_tile}
 use Rattle.reply_model.specs.Readings.{LeadsTo, LeadToOneName}
-use Rattle.session_core.specs.Sessions.{SessionState, walker_at, IsWalker, IsSession, HasNumbers, IsDue, StandsFor, HasAnswered}
+use Rattle.session_core.specs.Sessions.{SessionState, walker_at, IsWalker, IsSession, HasNumbers, IsDue, StandsFor}
+use Rattle.session_core.specs.WalkSessions.{StandsForWalks}
+use Rattle.session_core.specs.Answered.{HasAnswered}
 use Rattle.session_core.proofs.Steps as steps
 use Rattle.session_core.proofs.Steps.{Does, HasGone, with_walker}
 use Rattle.session_core.proofs.Events.{Event, walk_push, walk_stays, exists_push, exists_made, exists_before}
 use Rattle.session_core.proofs.Answering.{unborn, due_push}
 use Rattle.session_core.proofs.Depth.{goes_deep, deep_goes}
+use Rattle.session_core.proofs.BothReadings.{readings_agree, stands_alike}
 
 -- the event makes no walker v
 abbrev MakesNot : Command → Reply → ℕ → Type 0
@@ -178,8 +181,19 @@ does_keep (steps.two_tiles w v p q e f n) = (refl, refl)
 
 pub answered : (s : SessionState) (c : Command) (x : Reply) (t : SessionState) → AreSound s.rules → IsSession s → HasNumbers c → Does s c x t → HasAnswered s c x t
 answered s c x t sound is lt d = record {
+  due_over_walks = λ h stands. (readings_agree s.rules.kinds s.rules.automaton s.kind sound.valid sound.accepted is.known h c x).0 (does_due s sound is h (before h stands) lt d);
+  stands_over_walks = λ h stands. (after (h ++ (c, x) ∷ [])).0 (does_stand s sound is h (before h stands) lt d);
   due = λ h stands. does_due s sound is h stands lt d;
   stands = λ h stands. does_stand s sound is h stands lt d;
   rules = (does_keep d).0;
   kind = (does_keep d).1;
 }
+  where
+    before : (h : List Event) → StandsForWalks s h → StandsFor s h
+    before h = (stands_alike s sound is.known h).1
+
+    known : t.kind < length t.rules.kinds
+    known = subst (λ j. j < length t.rules.kinds) (sym (does_keep d).1) (subst (λ r. s.kind < length r.kinds) (sym (does_keep d).0) is.known)
+
+    after : (h : List Event) → StandsFor t h ↔ StandsForWalks t h
+    after = stands_alike t (subst AreSound (sym (does_keep d).0) sound) known

@@ -1,8 +1,8 @@
 -- What a command does to the spots of a session, and what the session answers.
-use Rattle.std.specs.Prelude.{◌≡◌, ◌≢◌, ℕ, ◌⊎◌, List, slice_set, Option, None, Some, IsSome}
+use Rattle.std.specs.Prelude.{◌≡◌, ◌≢◌, ℕ, ◌⊎◌, List, slice_set, None, Some, IsSome}
 use Rattle.tile_model.specs.declared.Letter.{Letter}
 use Rattle.tree_model.specs.Automata.{state_at}
-use Rattle.tree_model.specs.Positions.{Position, root}
+use Rattle.tree_model.specs.Positions.{root}
 use Rattle.turn_rules.specs.Spots.{TreeSpot, IsAt, position, tile_state}
 use Rattle.step_engine.specs.Crossings.{LeadsTo, WalksDeep}
 use Rattle.reply_model.specs.declared.Command.{Command}

@@ -1,12 +1,13 @@
--- What the replies come to: each command has one reply, and what stands between the commands that make and move walkers does not matter
--- to where they are.
-use Rattle.std.specs.Prelude.{◌≡◌, ℕ, List, [], ◌∷◌, ◌++◌}
+-- What the replies come to: each command has one reply, what stands between the commands that make and move walkers does not matter to
+-- where they are, and the reading over the tree and the one over walks are the same.
+use Rattle.std.specs.Prelude.{◌≡◌, ◌↔◌, ℕ, List, [], ◌∷◌, ◌++◌}
 use Rattle.tile_model.specs.Tessellations.{TileKind}
 use Rattle.tree_model.specs.Automata.{TreeAutomaton}
 use Rattle.reply_model.specs.declared.Command.{Command}
 use Rattle.reply_model.specs.declared.Command.TheVariants.{New, Go, At}
 use Rattle.reply_model.specs.declared.Reply.{Reply}
 use Rattle.reply_model.specs.Readings.{IsTreeReply}
+use Rattle.reply_model.specs.WalkReadings.{IsWalkReply}
 use Rattle.session_core.specs.Sessions.{AreDue}
 
 -- the command alone where it makes or moves a walker, else nothing
@@ -29,3 +30,7 @@ module _ (kinds : List TileKind) (a : TreeAutomaton) (k : ℕ) where
   -- reply to `at` that is due after one is due after the other.
   abbrev pub InterleavingsAgree : Type 0
   InterleavingsAgree = (history other : List (Command × Reply)) → AreDue kinds a k history → AreDue kinds a k other → moves history ≡ moves other → (w : ℕ) (x : Reply) → IsTreeReply kinds a k history (At w) x → IsTreeReply kinds a k other (At w) x
+
+  -- A reply is due by what the tree says exactly where it is due by what walks say.
+  abbrev pub ReadingsAgree : Type 0
+  ReadingsAgree = (history : List (Command × Reply)) (c : Command) (x : Reply) → IsTreeReply kinds a k history c x ↔ IsWalkReply kinds a k history c x

@@ -1,2 +1,4 @@
 pub mod Sessions
+pub mod WalkSessions
+pub mod Answered
 pub mod Laws

@@ -1,5 +1,5 @@
 -- Sessions: walkers in the tree of a kind, and the histories that a session stands for.
-use Rattle.std.specs.Prelude.{◌≡◌, ℕ, ◌<◌, ◌≤◌, ◌↔◌, List, [], ◌∷◌, ◌++◌, length, slice_index_or, Option, None, Some, IsSome}
+use Rattle.std.specs.Prelude.{◌≡◌, ℕ, ◌<◌, ◌≤◌, ◌↔◌, List, ◌∷◌, ◌++◌, length, slice_index_or, Option, None, Some, IsSome}
 use Rattle.tile_model.specs.Tessellations.{TileKind}
 use Rattle.tree_model.specs.Automata.{TreeAutomaton}
 use Rattle.structure_check.specs.Rules.{TreeRules}
@@ -53,11 +53,3 @@ pub record StandsFor (session : SessionState) (history : List (Command × Reply)
   pub replies : AreDue session.rules.kinds session.rules.automaton session.kind history
   pub walkers : (w : ℕ) → w < 64 → IsSome (walker_at session w) ↔ Exists history w
   pub spots : (w : ℕ) (s : TreeSpot) → walker_at session w ≡ Some s → LeadsTo session.rules.kinds session.rules.automaton session.kind (walk_of history w) (position s)
-
--- The session has answered the command by the reply: it is the one that is due after each history for which the session stood, and now the
--- session stands for that history followed by the command and the reply.
-pub record HasAnswered (old : SessionState) (c : Command) (x : Reply) (new : SessionState) : Type 0 where
-  pub due : (history : List (Command × Reply)) → StandsFor old history → IsDue old history c x
-  pub stands : (history : List (Command × Reply)) → StandsFor old history → StandsFor new (history ++ (c, x) ∷ [])
-  pub rules : new.rules ≡ old.rules
-  pub kind : new.kind ≡ old.kind

@@ -1,6 +1,6 @@
-//! What the replies come to. The function does nothing but read the rules: its contract states laws of the definitions.
+//! What the replies come to. The functions do nothing but read the rules: their contracts state laws of the definitions.
 ghost use Rattle.std.specs.Prelude.{◌<◌, length};
-ghost use Rattle.session_core.specs.Laws.{RepliesAreOne, InterleavingsAgree};
+ghost use Rattle.session_core.specs.Laws.{RepliesAreOne, InterleavingsAgree, ReadingsAgree};
 
 use structure_check::Rules;
 
@@ -11,6 +11,16 @@ pub fn interleaving(r: &Rules, kind: u8)
     requires { kind < length r.now.kinds }
     ensures one_reply { RepliesAreOne r.now.kinds r.now.automaton kind }
     ensures interleavings { InterleavingsAgree r.now.kinds r.now.automaton kind }
+{
+    let _ = r.automaton();
+}
+
+/// The replies mean the same over the tree and over walks: a reply is due by the position that a walk leads to, and by the name of that
+/// position, exactly where it is due by the place whose word is related to the walk, and by being at the same tile. `kind` is a kind of the
+/// tessellation.
+pub fn readings(r: &Rules, kind: u8)
+    requires { kind < length r.now.kinds }
+    ensures { ReadingsAgree r.now.kinds r.now.automaton kind }
 {
     let _ = r.automaton();
 }

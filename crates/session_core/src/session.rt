@@ -2,12 +2,13 @@
 ghost use Rattle.std.specs.Prelude.{◌≡◌, ◌<◌, ◌↔◌, List, [], ◌∷◌, ◌++◌, length, replicate, None, Some, MatchOption, IfOk, OnErr, IsTrue};
 ghost use Rattle.reply_model.specs.declared.Command.{Command};
 ghost use Rattle.reply_model.specs.declared.Reply.{Reply};
-ghost use Rattle.session_core.specs.Sessions.{SessionState, StandsFor, IsDue, HasNumbers, HasAnswered, walker_at};
+ghost use Rattle.session_core.specs.Sessions.{SessionState, StandsFor, IsDue, HasNumbers, walker_at};
+ghost use Rattle.session_core.specs.WalkSessions.{StandsForWalks, IsDueOverWalks};
+ghost use Rattle.session_core.specs.Answered.{HasAnswered};
 
 use reply_model::{Command, Reply};
 use std::alloc::{AllocError, Global};
 use std::marker::Model;
-use std::mem;
 use step_engine::{StepFault, root_spot, walk};
 use structure_check::Rules;
 use turn_rules::Spot;
@@ -22,7 +23,6 @@ pub struct Session<'r> {
     rules: &'r Rules,
     kind: u8,
     walkers: Vec<Option<Spot>>,
-    spare: Spot,
 }
 
 impl<'r> Model for Session<'r> {
@@ -39,6 +39,7 @@ impl<'r> Session<'r> {
     /// A session without walkers in the tree of a kind, which is one of the tessellation.
     pub fn new(alloc: Global, rules: &'r Rules, kind: u8) -> Result<Session<'r>, AllocError>
         requires { kind < length rules.now.kinds }
+        ensures stands_over_walks { IfOk result (λ s. StandsForWalks s []) }
         ensures stands { IfOk result (λ s. StandsFor s []) }
         ensures rules { IfOk result (λ s. s.rules ≡ rules.now) }
         ensures kind { IfOk result (λ s. s.kind ≡ kind) }
@@ -47,7 +48,6 @@ impl<'r> Session<'r> {
             rules,
             kind,
             walkers: no_walkers(alloc)?,
-            spare: root_spot(alloc, rules, kind)?,
         })
     }
 
@@ -56,10 +56,14 @@ impl<'r> Session<'r> {
     pub fn apply(&mut self, c: &Command) -> Result<Reply, AllocError>
         requires { HasNumbers c.now }
 
-        // The reply is the one that is due after each history for which the session stands.
-        ensures due { IfOk result (λ x. (history : List (Command × Reply)) → StandsFor self.old history → IsDue self.old history c.now x) }
+        // The reply is the one that is due after each history for which the session stands. It stands then for that history followed by the
+        // command and its reply, and after want of memory for the same histories as before.
+        ensures due_over_walks { IfOk result (λ x. (history : List (Command × Reply)) → StandsForWalks self.old history → IsDueOverWalks self.old history c.now x) }
+        ensures stands_over_walks { IfOk result (λ x. (history : List (Command × Reply)) → StandsForWalks self.old history → StandsForWalks self.new (history ++ (c.now, x) ∷ [])) }
+        ensures memory_over_walks { OnErr result ((history : List (Command × Reply)) → StandsForWalks self.new history ↔ StandsForWalks self.old history) }
 
-        // It stands then for that history followed by the command and its reply, and after want of memory for the same histories as before.
+        // The same, read over the tree.
+        ensures due { IfOk result (λ x. (history : List (Command × Reply)) → StandsFor self.old history → IsDue self.old history c.now x) }
         ensures stands { IfOk result (λ x. (history : List (Command × Reply)) → StandsFor self.old history → StandsFor self.new (history ++ (c.now, x) ∷ [])) }
         ensures memory { OnErr result ((history : List (Command × Reply)) → StandsFor self.new history ↔ StandsFor self.old history) }
         ensures unchanged { OnErr result (self.new ≡ self.old) }
@@ -97,7 +101,7 @@ impl<'r> Session<'r> {
         Ok(Reply::Done)
     }
 
-    /// Walker `w` goes along a walk. It goes on the spare spot, which becomes its own where no crossing lies too deep.
+    /// Walker `w` goes along a walk. Where some crossing lies too deep it stays where it is.
     fn go(&mut self, w: u8, path: &Walk) -> Result<Reply, AllocError>
         requires { w < 64 }
         ensures answered { IfOk result (λ x. HasAnswered self.old (Command.Go w path.now) x self.new) }
@@ -107,12 +111,8 @@ impl<'r> Session<'r> {
         let Some(spot) = &mut self.walkers[w as usize] else {
             return Ok(Reply::NoWalker);
         };
-        self.spare.copy_from(spot)?;
-        match walk(&mut self.spare, self.rules, path) {
-            Ok(()) => {
-                mem::swap(spot, &mut self.spare);
-                Ok(Reply::Done)
-            }
+        match walk(spot, self.rules, path) {
+            Ok(()) => Ok(Reply::Done),
             Err(StepFault::Deep) => Ok(Reply::Deep),
             Err(StepFault::Memory) => Err(AllocError),
         }

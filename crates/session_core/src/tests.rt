@@ -1,66 +1,20 @@
-// Two streams of commands over pentagons, four at a corner, with the replies that are known from outside.
+// Two streams of commands with the replies that are known from outside, and walkers on all ways of a few steps over five tessellations,
+// compared with a slow program that knows no rules.
 ghost use Rattle.std.specs.Prelude.{◌≤◌, length, IsTrue};
 ghost use Rattle.session_core.specs.Sessions.{HasNumbers};
 
-use crate::Session;
+mod ball;
+mod samples;
+
+use crate::{Session, laws};
+use ball::Ball;
 use reply_model::{Command, Reply};
-use rules_data::Rule::{Child, Left, Parent, Right};
-use rules_data::{Automaton, Claim, Corner, Rule, State};
+use samples::{heptagons, mixed, pentagons, squares, triangles};
 use std::alloc::{AllocError, Global};
 use std::test::Fail;
-use structure_check::{Rules, check};
-use tile_kinds::{Kind, Tessellation};
+use structure_check::Rules;
 use walk_words::Letter::{L, R, X};
 use walk_words::{Letter, Walk};
-
-fn state(alloc: Global, rules: &[Rule], places: &[u8]) -> Result<State, AllocError> {
-    let mut claims = Vec::new(alloc);
-    for place in places {
-        claims.push(Claim {
-            corner: 0,
-            place: *place,
-        })?;
-    }
-    Ok(State {
-        kind: 0,
-        off: 0,
-        rules: Vec::from_slice(alloc, rules)?,
-        claims,
-    })
-}
-
-fn pentagons(alloc: Global) -> Result<Option<Rules>, AllocError> {
-    let kind = Kind {
-        sides: 5,
-        repeat: 1,
-        partner: vec![in alloc; (0, 0)]?,
-        valence: vec![in alloc; 4]?,
-    };
-    let one = [Parent, Right, Child(1), Child(1), Child(2)];
-    let two = [Parent, Right, Child(1), Child(2), Left];
-    let mut states = Vec::new(alloc);
-    states.push(state(alloc, &[Child(1); 5], &[2; 5])?)?;
-    states.push(state(alloc, &one, &[3, 2, 2, 2, 1])?)?;
-    states.push(state(alloc, &two, &[3, 2, 2, 1, 0])?)?;
-    let corner = Corner {
-        offsets: vec![in alloc; 0, -1, -2, -1]?,
-        outer: Claim {
-            corner: 0,
-            place: 1,
-        },
-        rank: 0,
-    };
-    let automaton = Automaton {
-        states,
-        corners: vec![in alloc; corner]?,
-        roots: vec![in alloc; 0]?,
-        scale: 1,
-    };
-    match Tessellation::make(vec![in alloc; kind]?) {
-        Ok(tess) => Ok(check(tess, automaton).ok()),
-        Err(_) => Ok(None),
-    }
-}
 
 fn walk(alloc: Global, letters: &[Letter]) -> Result<Walk, AllocError> {
     let mut walk = Walk::new(alloc);
@@ -152,7 +106,101 @@ fn walkers_answer(rt: HostRuntime) -> Result<(), Fail> {
         panic!(rt; "no rules");
     };
     assert_eq!(rt; rules.tessellation().kinds(), 1);
+    laws::interleaving(&rules, 0);
+    laws::readings(&rules, 0);
     assert_eq!(rt; first_wrong(alloc, &rules, &meeting(alloc)?)?, None);
     assert_eq!(rt; first_wrong(alloc, &rules, &around(alloc)?)?, None);
+    Ok(())
+}
+
+// A turn, by one or two sides to the left or to the right, and a crossing.
+fn step(walk: &mut Walk, digit: u8) -> Result<(), AllocError> {
+    match digit {
+        0 => walk.push(L)?,
+        1 => walk.push(R)?,
+        2 => {
+            walk.push(L)?;
+            walk.push(L)?;
+        }
+        _ => {
+            walk.push(R)?;
+            walk.push(R)?;
+        }
+    }
+    walk.push(X)
+}
+
+// The way of the walker of a number: three steps by the digits of the number, and a last one.
+fn way(alloc: Global, number: u8, last: u8) -> Result<Walk, AllocError> {
+    let mut walk = Walk::new(alloc);
+    step(&mut walk, number % 4)?;
+    step(&mut walk, number / 4 % 4)?;
+    step(&mut walk, number / 16 % 4)?;
+    step(&mut walk, last)?;
+    Ok(walk)
+}
+
+// The number of ordered pairs of walkers on one tile, or None where the session and the slow program do not agree on some pair.
+fn together(session: &mut Session<'_>, tiles: &[u32]) -> Result<Option<u32>, AllocError> {
+    let mut count = 0_u32;
+    for w in 0..64_u8 {
+        for v in 0..64_u8 {
+            let one = tiles.get(w as usize) == tiles.get(v as usize);
+            let want = if one { "yes" } else { "no" };
+            if text(&session.apply(&Command::Same(w, v))?) != want {
+                return Ok(None);
+            }
+            count = count.wrapping_add(u32::from(one));
+        }
+    }
+    Ok(Some(count))
+}
+
+// Sends a walker on each way of four steps that ends in one of them, and compares all pairs.
+fn meet(
+    alloc: Global,
+    rules: &Rules,
+    ball: &Ball<'_>,
+    last: u8,
+) -> Result<Option<u32>, AllocError> {
+    if rules.tessellation().kinds() == 0 {
+        return Ok(None);
+    }
+    let mut session = Session::new(alloc, rules, 0)?;
+    let mut tiles = Vec::new(alloc);
+    for w in 0..64_u8 {
+        let walk = way(alloc, w, last)?;
+        let Some(side) = ball.walk(0, walk.letters()) else {
+            return Ok(None);
+        };
+        let Some(tile) = ball.tile(side) else {
+            return Ok(None);
+        };
+        tiles.push(tile)?;
+        session.apply(&Command::New(w))?;
+        session.apply(&Command::Go(w, walk))?;
+    }
+    together(&mut session, &tiles)
+}
+
+// The pairs that meet are counted in the drawn tilings too: where the last turn is by one side, and where it is by two.
+#[test]
+fn walkers_meet_as_in_a_ball(rt: HostRuntime) -> Result<(), Fail> {
+    let alloc = rt.alloc();
+    for (rules, sides, one, two) in [
+        (pentagons(alloc)?, 600, 100, 82),
+        (squares(alloc)?, 300, 274, 288),
+        (heptagons(alloc)?, 700, 168, 108),
+        (triangles(alloc)?, 300, 512, 512),
+        (mixed(alloc)?, 700, 180, 120),
+    ] {
+        let Some(rules) = rules else {
+            panic!(rt; "no rules");
+        };
+        let ball = Ball::grow(alloc, rules.tessellation(), sides)?;
+        for (last, met) in [(0, one), (1, one), (2, two), (3, two)] {
+            assert_eq!(rt; meet(alloc, &rules, &ball, last)?, Some(met));
+        }
+    }
     Ok(())
 }

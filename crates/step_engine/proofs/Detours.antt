@@ -1,6 +1,6 @@
 -- Detours: where they begin, what they read of the tree, and the steps that they take.
 use Rattle.std.proofs.Common.{◌≡◌, ◌≢◌, ℕ, zero, suc, ◌+◌, ◌-◌, ◌<◌, ◌≤◌, Bool, true, false, List, All, [], ◌∷◌, ◌++◌, length, take, slice_index_or, refl, sym, ap, ap₂, ◌∙◌, subst, arith, append-nil, append_assoc, take_all, length-append, length-take, get_or-append-add, get_or-take}
-use Rattle.std.proofs.lemmas.List.{take_more, length_push}
+use Rattle.std.proofs.lemmas.List.{take_more, length_push, get_or_push}
 use Rattle.structure_check.specs.Rules.{TreeRules, AreSound}
 use Rattle.tree_model.specs.declared.Rule.TheVariants.{Parent, Child}
 use Rattle.tree_model.specs.Automata.{state_at, root_at, rule_at, side_count, next, previous}
@@ -14,14 +14,14 @@ use Rattle.step_engine.specs.declared.detour.Detour.{Detour}
 use Rattle.step_engine.specs.Detours.{IsShaped, IsDetour, IsAbove, ComesTo, spot_there, there}
 
 -- a detour that has not left the spot
-pub starts : (r : TreeRules) (s : TreeSpot) (d : Detour) → IsSpot r s → d.kept ≡ length s.name → d.sides.items ≡ [] → d.states.items ≡ [] → d.spin ≡ s.spin → ComesTo r s (position s) d
-starts r s d h k n p z =
+pub starts : (r : TreeRules) (s : TreeSpot) (d : Detour) → IsSpot r s → d.kept ≡ length s.name → d.sides.items ≡ [] → d.states.items ≡ [] → d.tile ≡ tile_state r s → d.spin ≡ s.spin → ComesTo r s (position s) d
+starts r s d h k n p y z =
     let whole = path_length r s h in
     let name : take d.kept s.name ++ d.sides.items ≡ s.name = ap (λ m. take d.kept s.name ++ m) n ∙ append-nil (take d.kept s.name) ∙ take_all d.kept s.name (omega (arith, k)) in
     let path : take (suc d.kept) s.path ++ d.states.items ≡ s.path = ap (λ m. take (suc d.kept) s.path ++ m) p ∙ append-nil (take (suc d.kept) s.path) ∙ take_all (suc d.kept) s.path (omega (arith, k, whole)) in
     let same : spot_there s d ≡ s = λ i. record { name = name i; path = path i; spin = z i } in
     let shape : IsShaped s d = record { path = whole; kept = omega (arith, k); states = ap length p ∙ sym (ap length n) } in
-    record { detour = record { shape = shape; spot = subst (IsSpot r) (sym same) h; tree = ap (root_kind r) same }; arrives = ap position same }
+    record { detour = record { shape = shape; spot = subst (IsSpot r) (sym same) h; tree = ap (root_kind r) same; tile = y ∙ sym (ap (tile_state r) same) }; arrives = ap position same }
 
 length_kept : (n : ℕ) (xs : List ℕ) → n ≤ length xs → length (take n xs) ≡ n
 length_kept n xs h = grind (arith, length-take n xs, h)
@@ -40,19 +40,19 @@ last_entered xs ys n d h l =
     let i : n + length ys ≡ length xs + (length ys - 1) = omega (arith, h, l) in
     ap (λ i. slice_index_or (xs ++ ys) i d) i ∙ get_or-append-add xs ys (length ys - 1) d
 
-pub state_entered : (r : TreeRules) (s : TreeSpot) (d : Detour) (x : ℕ) → IsDetour r s d → 1 ≤ length d.states.items → x ≡ slice_index_or d.states.items (length d.states.items - 1) x → x ≡ tile_state r (spot_there s d)
-state_entered r s d x h l e =
-    let n : length (there s d).name ≡ d.kept + length d.states.items = depth_is s d h.shape ∙ ap (λ n. d.kept + n) (sym h.shape.states) in
-    let f = last_entered (take (suc d.kept) s.path) d.states.items d.kept x (length_kept (suc d.kept) s.path (omega (arith, h.shape.kept, h.shape.path))) l in
-    e ∙ sym f ∙ ap (λ n. slice_index_or (spot_there s d).path n x) (sym n) ∙ spot_state r (spot_there s d) x h.spot
+pub state_entered : (r : TreeRules) (s : TreeSpot) (d : Detour) (x : ℕ) → IsShaped s d → IsSpot r (spot_there s d) → 1 ≤ length d.states.items → x ≡ slice_index_or d.states.items (length d.states.items - 1) x → x ≡ tile_state r (spot_there s d)
+state_entered r s d x h spot l e =
+    let n : length (there s d).name ≡ d.kept + length d.states.items = depth_is s d h ∙ ap (λ n. d.kept + n) (sym h.states) in
+    let f = last_entered (take (suc d.kept) s.path) d.states.items d.kept x (length_kept (suc d.kept) s.path (omega (arith, h.kept, h.path))) l in
+    e ∙ sym f ∙ ap (λ n. slice_index_or (spot_there s d).path n x) (sym n) ∙ spot_state r (spot_there s d) x spot
 
 -- and where it has not
-pub state_kept : (r : TreeRules) (s : TreeSpot) (d : Detour) → IsDetour r s d → length d.states.items ≡ 0 → slice_index_or s.path d.kept 0 ≡ tile_state r (spot_there s d)
-state_kept r s d h l =
-    let n : length (there s d).name ≡ d.kept = depth_is s d h.shape ∙ omega (arith, l, h.shape.states) in
+pub state_kept : (r : TreeRules) (s : TreeSpot) (d : Detour) → IsShaped s d → IsSpot r (spot_there s d) → length d.states.items ≡ 0 → slice_index_or s.path d.kept 0 ≡ tile_state r (spot_there s d)
+state_kept r s d h spot l =
+    let n : length (there s d).name ≡ d.kept = depth_is s d h ∙ omega (arith, l, h.states) in
     let none : d.states.items ≡ [] = no_items d.states.items l in
     let path : (spot_there s d).path ≡ take (suc d.kept) s.path = ap (λ m. take (suc d.kept) s.path ++ m) none ∙ append-nil (take (suc d.kept) s.path) in
-    sym (get_or-take (suc d.kept) s.path d.kept 0 (omega arith)) ∙ ap₂ (λ p i. slice_index_or p i 0) (sym path) (sym n) ∙ spot_state r (spot_there s d) 0 h.spot
+    sym (get_or-take (suc d.kept) s.path d.kept 0 (omega arith)) ∙ ap₂ (λ p i. slice_index_or p i 0) (sym path) (sym n) ∙ spot_state r (spot_there s d) 0 spot
 
 pub nothing_left : (n : ℕ) → (0 < n → false ≡ true) → n ≡ 0
 nothing_left zero h = refl
@@ -105,15 +105,16 @@ module _ (r : TreeRules) (sound : AreSound r) where
   pub rule_home : (s : TreeSpot) (d : Detour) → IsDetour r s d → faced_rule r (spot_there s d) ≡ rule_of r.kinds r.automaton (Home s) (there s d)
   rule_home s d h = ap (λ k. rule_of r.kinds r.automaton k (there s d)) h.tree
 
-  pub state_in_range : (s : TreeSpot) (d : Detour) → IsDetour r s d → tile_state r (spot_there s d) < length r.automaton.states
-  state_in_range s d h = tile_known r sound (spot_there s d) h.spot
+  pub state_in_range : (s : TreeSpot) (d : Detour) → IsDetour r s d → d.tile < length r.automaton.states
+  state_in_range s d h = subst (λ n. n < length r.automaton.states) (sym h.tile) (tile_known r sound (spot_there s d) h.spot)
 
   -- another side of the same tile
-  pub turns_to : (s : TreeSpot) (d d' : Detour) (leftwards : Bool) → IsDetour r s d → d'.kept ≡ d.kept → d'.sides.items ≡ d.sides.items → d'.states.items ≡ d.states.items
-      → (leftwards ≡ true → d'.spin ≡ next (side_count r.kinds r.automaton (tile_state r (spot_there s d))) d.spin)
-      → (leftwards ≡ false → d'.spin ≡ previous (side_count r.kinds r.automaton (tile_state r (spot_there s d))) d.spin)
+  pub turns_to : (s : TreeSpot) (d d' : Detour) (leftwards : Bool) → IsDetour r s d → d'.kept ≡ d.kept → d'.sides.items ≡ d.sides.items → d'.states.items ≡ d.states.items → d'.tile ≡ d.tile
+      → (leftwards ≡ true → d'.spin ≡ next (side_count r.kinds r.automaton d.tile) d.spin)
+      → (leftwards ≡ false → d'.spin ≡ previous (side_count r.kinds r.automaton d.tile) d.spin)
       → ComesTo r s (turned r.kinds r.automaton (Home s) leftwards (there s d)) d'
-  turns_to s d d' leftwards h k n p left right = go leftwards left right
+  turns_to s d d' leftwards h k n p y left right =
+      go leftwards (λ e. left e ∙ ap (λ x. next (side_count r.kinds r.automaton x) d.spin) h.tile) (λ e. right e ∙ ap (λ x. previous (side_count r.kinds r.automaton x) d.spin) h.tile)
     where
       shape : IsShaped s d'
       shape = record { path = h.shape.path; kept = omega (arith, k, h.shape.kept); states = ap length p ∙ h.shape.states ∙ sym (ap length n) }
@@ -129,7 +130,7 @@ module _ (r : TreeRules) (sound : AreSound r) where
           let t : TreeSpot = record { name = (spot_there s d).name; path = (spot_there s d).path; spin = i } in
           let same : spot_there s d' ≡ t = λ j. record { name = name j; path = path j; spin = e j } in
           let spot : IsSpot r t = record { known = h.spot.known; there = there; along = h.spot.along } in
-          record { detour = record { shape = shape; spot = subst (IsSpot r) (sym same) spot; tree = ap (root_kind r) same ∙ h.tree }; arrives = ap position same }
+          record { detour = record { shape = shape; spot = subst (IsSpot r) (sym same) spot; tree = ap (root_kind r) same ∙ h.tree; tile = y ∙ h.tile ∙ sym (ap (tile_state r) same) }; arrives = ap position same }
 
       go : (b : Bool) → (b ≡ true → d'.spin ≡ next (side_count r.kinds r.automaton (tile_state r (spot_there s d))) d.spin)
           → (b ≡ false → d'.spin ≡ previous (side_count r.kinds r.automaton (tile_state r (spot_there s d))) d.spin)
@@ -140,28 +141,31 @@ module _ (r : TreeRules) (sound : AreSound r) where
           subst (λ k. ComesTo r s (turned r.kinds r.automaton k false (there s d)) d') h.tree (to (previous (side_count r.kinds r.automaton (tile_state r (spot_there s d))) d.spin) (g refl) (right_position r.kinds r.automaton (root_kind r (spot_there s d)) (there s d) h.spot.there))
 
   -- to a spot in the tree of the spot there
-  comes : (s : TreeSpot) (d d' : Detour) (p : Position) → IsDetour r s d → IsShaped s d' → IsAt r (root_kind r (spot_there s d)) p (spot_there s d') → ComesTo r s p d'
-  comes s d d' p h shape at = record { detour = record { shape = shape; spot = at.spot; tree = at.tree ∙ h.tree }; arrives = at.stands }
+  comes : (s : TreeSpot) (d d' : Detour) (p : Position) → IsDetour r s d → IsShaped s d' → IsAt r (root_kind r (spot_there s d)) p (spot_there s d') → d'.tile ≡ tile_state r (spot_there s d') → ComesTo r s p d'
+  comes s d d' p h shape at tile = record { detour = record { shape = shape; spot = at.spot; tree = at.tree ∙ h.tree; tile = tile }; arrives = at.stands }
 
   -- to the child
   pub goes_down : (s : TreeSpot) (d d' : Detour) (c : ℕ) → IsDetour r s d → faced_rule r (spot_there s d) ≡ Child c
-      → d'.kept ≡ d.kept → d'.sides.items ≡ d.sides.items ++ d.spin ∷ [] → d'.states.items ≡ d.states.items ++ c ∷ [] → d'.spin ≡ 0
+      → d'.kept ≡ d.kept → d'.sides.items ≡ d.sides.items ++ d.spin ∷ [] → d'.states.items ≡ d.states.items ++ c ∷ [] → d'.tile ≡ c → d'.spin ≡ 0
       → ComesTo r s (hop r.kinds r.automaton (Home s) (there s d)) d'
-  goes_down s d d' c h e k n p z =
+  goes_down s d d' c h e k n p y z =
       let shape : IsShaped s d' = record { path = h.shape.path; kept = omega (arith, k, h.shape.kept); states = omega (arith, ap length p, ap length n, length_push d.states.items c, length_push d.sides.items d.spin, h.shape.states) } in
       let name : (spot_there s d').name ≡ (spot_there s d).name ++ d.spin ∷ [] = ap₂ (λ i m. take i s.name ++ m) k n ∙ sym (append_assoc (take d.kept s.name) d.sides.items (d.spin ∷ [])) in
       let path : (spot_there s d').path ≡ (spot_there s d).path ++ c ∷ [] = ap₂ (λ i m. take (suc i) s.path ++ m) k p ∙ sym (append_assoc (take (suc d.kept) s.path) d.states.items (c ∷ [])) in
       let at = down_is r sound (spot_there s d) (spot_there s d') c h.spot e name path z in
+      let last : length (spot_there s d).path ≡ length (spot_there s d').name = omega (arith, path_length r (spot_there s d) h.spot, ap length name, length_push (spot_there s d).name d.spin) in
+      let tile : d'.tile ≡ tile_state r (spot_there s d') =
+      y ∙ sym (ap (λ xs. slice_index_or xs (length (spot_there s d').name) c) path ∙ get_or_push (spot_there s d).path c c (length (spot_there s d').name) last) ∙ spot_state r (spot_there s d') c at.spot in
       let across = ap (λ x. tree_across x (there s d)) (sym (rule_home s d h) ∙ e) in
-      subst (λ q. ComesTo r s q d') (sym across) (comes s d d' (make_position ((spot_there s d).name ++ d.spin ∷ []) 0) h shape at)
+      subst (λ q. ComesTo r s q d') (sym across) (comes s d d' (make_position ((spot_there s d).name ++ d.spin ∷ []) 0) h shape at tile)
 
   -- to the parent
   pub goes_up : (s : TreeSpot) (d d' : Detour) → IsDetour r s d → faced_rule r (spot_there s d) ≡ Parent → IsShaped s d' → IsAbove (spot_there s d') (spot_there s d)
-      → ComesTo r s (hop r.kinds r.automaton (Home s) (there s d)) d'
-  goes_up s d d' h e shape above =
+      → (IsSpot r (spot_there s d') → d'.tile ≡ tile_state r (spot_there s d')) → ComesTo r s (hop r.kinds r.automaton (Home s) (there s d)) d'
+  goes_up s d d' h e shape above tile =
       let at = up_is r sound (spot_there s d) (spot_there s d') above.last h.spot above.name above.path in
       let across = ap (λ x. tree_across x (there s d)) (sym (rule_home s d h) ∙ e) in
-      subst (λ q. ComesTo r s q d') (sym across) (comes s d d' (make_position (parent (there s d).name) (last_side (there s d).name)) h shape at)
+      subst (λ q. ComesTo r s q d') (sym across) (comes s d d' (make_position (parent (there s d).name) (last_side (there s d).name)) h shape at (tile at.spot))
 
   -- a Parent side is that of no root
   pub has_parent : (s : TreeSpot) (d : Detour) → IsDetour r s d → faced_rule r (spot_there s d) ≡ Parent → (there s d).name ≢ []

@@ -4,7 +4,7 @@ use Rattle.tile_model.specs.declared.Letter.{Letter}
 use Rattle.tile_model.specs.declared.Letter.TheVariants.{X}
 use Rattle.structure_check.specs.Rules.{TreeRules}
 use Rattle.tree_model.specs.Positions.{Position, LiesAcross, Moves}
-use Rattle.turn_rules.specs.Spots.{TreeSpot, IsSpot, position, root_kind, rejoined}
+use Rattle.turn_rules.specs.Spots.{TreeSpot, IsSpot, position, root_kind, tile_state, rejoined}
 use Rattle.turn_rules.specs.Directions.{Goes}
 use Rattle.step_engine.specs.declared.detour.Detour.{Detour}
 
@@ -22,11 +22,12 @@ pub record IsShaped (s : TreeSpot) (d : Detour) : Type 0 where
   pub kept : d.kept ≤ length s.name
   pub states : length d.states.items ≡ length d.sides.items
 
--- A detour from s: it has come to a spot in the same tree.
+-- A detour from s: it has come to a spot in the same tree, and tells the state of the tile there.
 pub record IsDetour (rules : TreeRules) (s : TreeSpot) (d : Detour) : Type 0 where
   pub shape : IsShaped s d
   pub spot : IsSpot rules (spot_there s d)
   pub tree : root_kind rules (spot_there s d) ≡ root_kind rules s
+  pub tile : d.tile ≡ tile_state rules (spot_there s d)
 
 -- the spot with one side and one state less
 pub record IsAbove (upper lower : TreeSpot) : Type 0 where

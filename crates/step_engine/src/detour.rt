@@ -20,12 +20,13 @@ use walk_words::Letter;
 const INLINE: usize = 32;
 
 /// A place in the tree, by how its name leaves that of a spot: the first `kept` sides of the spot's name, and then other sides, with the
-/// states that they lead to.
+/// states that they lead to. The state of its tile, the last one on the path, stands apart, since each move asks for it.
 #[derive(Drop)]
 pub(crate) struct Detour {
     pub(crate) kept: usize,
     pub(crate) sides: SmallVec<u8, INLINE>,
     pub(crate) states: SmallVec<u32, INLINE>,
+    pub(crate) tile: u32,
     pub(crate) spin: u8,
 }
 
@@ -38,6 +39,7 @@ impl Detour {
             kept: s.level(),
             sides: s.empty_list(),
             states: s.empty_list(),
+            tile: s.state(),
             spin: s.spin(),
         }
     }
@@ -50,9 +52,10 @@ impl Detour {
         self.kept > DEEPEST || self.sides.len() > DEEPEST - self.kept
     }
 
-    fn state(&self, s: &Spot) -> u32
+    /// The last state on the path.
+    fn last_state(&self, s: &Spot) -> u32
         requires { IsShaped s.now self.now }
-        ensures { (rules : TreeRules) → IsDetour rules s.now self.now → result ≡ tile_state rules (spot_there s.now self.now) }
+        ensures { (rules : TreeRules) → IsSpot rules (spot_there s.now self.now) → result ≡ tile_state rules (spot_there s.now self.now) }
     {
         match self.states.as_slice().last() {
             Some(state) => *state,
@@ -65,7 +68,7 @@ impl Detour {
         ensures { result ≡ faced_rule r.now (spot_there s.now self.now) }
     {
         let _ = r.automaton();
-        rule(r, self.state(s), self.spin)
+        rule(r, self.tile, self.spin)
     }
 
     fn turn(&mut self, s: &Spot, r: &Rules, leftwards: bool)
@@ -73,22 +76,37 @@ impl Detour {
         ensures { ComesTo r.now s.now (turned r.now.kinds r.now.automaton (root_kind r.now s.now) leftwards (there s.now self.old)) self.new }
     {
         let _ = r.automaton();
-        self.spin = beside(r, self.state(s), self.spin, leftwards);
+        self.spin = beside(r, self.tile, self.spin, leftwards);
     }
 
+    #[inline]
     fn down(&mut self, child: u32) -> Result<(), AllocError>
         ensures kept { OnOk result (self.new.kept ≡ self.old.kept) }
         ensures sides { OnOk result (self.new.sides.items ≡ self.old.sides.items ++ self.old.spin ∷ []) }
         ensures states { OnOk result (self.new.states.items ≡ self.old.states.items ++ child ∷ []) }
+        ensures tile { OnOk result (self.new.tile ≡ child) }
         ensures spin { OnOk result (self.new.spin ≡ 0) }
     {
         self.sides.push(self.spin)?;
         self.states.push(child)?;
+        self.tile = child;
         self.spin = 0;
         Ok(())
     }
 
     fn up(&mut self, s: &Spot)
+        requires shape { IsShaped s.now self.old }
+        requires no_root { (there s.now self.old).name ≢ [] }
+        ensures shape { IsShaped s.now self.new }
+        ensures above { IsAbove (spot_there s.now self.new) (spot_there s.now self.old) }
+        ensures tile { (rules : TreeRules) → IsSpot rules (spot_there s.now self.new) → self.new.tile ≡ tile_state rules (spot_there s.now self.new) }
+    {
+        self.shorten(s);
+        self.tile = self.last_state(s);
+    }
+
+    /// Takes the last side away, which is faced then, and its state.
+    fn shorten(&mut self, s: &Spot)
         requires shape { IsShaped s.now self.old }
         requires no_root { (there s.now self.old).name ≢ [] }
         ensures shape { IsShaped s.now self.new }
@@ -109,11 +127,10 @@ impl Detour {
         ensures { result ≡ rank r.now.automaton (inner_corner r.now.kinds r.now.automaton (root_kind r.now s.now) leftwards (there s.now self.now)) }
     {
         let _ = r.automaton();
-        let state = self.state(s);
         if leftwards {
-            corner_rank(r, state, self.spin)
+            corner_rank(r, self.tile, self.spin)
         } else {
-            corner_rank(r, state, next_right(r, state, self.spin))
+            corner_rank(r, self.tile, next_right(r, self.tile, self.spin))
         }
     }
 

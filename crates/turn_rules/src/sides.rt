@@ -13,8 +13,7 @@ pub fn side_count(r: &Rules, state: u32) -> u8
     ensures at_least { 3 ≤ result }
     ensures at_most { result ≤ 64 }
 {
-    let tile = r.automaton().state(state);
-    r.tessellation().kind(tile.kind).sides
+    r.automaton().state(state).rules.len() as u8
 }
 
 /// The rule of a side of a tile in a state of the rules.

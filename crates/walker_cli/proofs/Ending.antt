@@ -5,7 +5,7 @@ use Rattle.tile_model.specs.Walks.{type_of}
 use Rattle.tree_model.specs.Automata.{TreeAutomaton}
 use Rattle.reply_model.specs.declared.Command.{Command}
 use Rattle.reply_model.specs.declared.Reply.{Reply}
-use Rattle.reply_model.specs.Readings.{IsTreeReply}
+use Rattle.reply_model.specs.WalkReadings.{IsWalkReply}
 use Rattle.way_io.specs.Pieces.{AppendsPrefix}
 use Rattle.line_server.specs.Lines.{most_of_stream}
 use Rattle.line_server.specs.Outputs.{History}
@@ -185,7 +185,7 @@ module _ (tells gives takes : Bool) (call : Call) (left left' taken taken' : Lis
   exactly (no_plan is kept) told status refusal = unanswered call result (Appends takes taken taken') status (refusal_is_told status refusal) (subst IsOutside (sym is) no_memory)
   exactly (with_answer answer known formless says) told status refusal = says_exactly takes call answer taken taken' result status (refusal_is_told status refusal) (known told) says
   exactly (with_stream kinds a k known asked ends) told status refusal = record {
-    only = λ same. absurd (refusal_of_no_stream status refusal (subst IsOfStream same (stream_status gives takes (IsTreeReply kinds a k) left left' taken taken' result ends)));
+    only = λ same. absurd (refusal_of_no_stream status refusal (subst IsOfStream same (stream_status gives takes (IsWalkReply kinds a k) left left' taken taken' result ends)));
     always = λ answer due is. absurd ((known told).alone answer due);
   }
 
@@ -240,7 +240,7 @@ module _ (tells gives takes : Bool) (call : Call) (left left' taken taken' : Lis
   pub fault_row : EndsCall tells gives takes call left left' taken taken' result → result ≡ FileFaultStatus → (role : Role) × Appends takes taken taken' (line_of (FileFault role))
   fault_row (no_plan is kept) fault = absurd (cc (is, fault))
   fault_row (with_answer answer known formless says) fault = fault_said answer fault says
-  fault_row (with_stream kinds a k known asked ends) fault = absurd (stream_read gives takes (IsTreeReply kinds a k) left left' taken taken' result ends fault)
+  fault_row (with_stream kinds a k known asked ends) fault = absurd (stream_read gives takes (IsWalkReply kinds a k) left left' taken taken' result ends fault)
 
   -- an answer is said by no status of the stream
   pub said_status : (answer : Answer) → SaysLine takes answer taken taken' result → (result ≡ ReadFault) ⊎ (result ≡ InputTooLong) → ⊥
@@ -339,7 +339,7 @@ module _ (tells gives takes : Bool) (call : Call) (left left' taken taken' : Lis
   answered_row (no_plan is kept) told gives_told takes_told = λ kinds a k serves few. inr (inl (subst IsOutside (sym is) no_memory))
   answered_row (with_answer answer known formless says) told gives_told takes_told = λ kinds a k serves few. inr (inl (said_outside answer ((known told).alone kinds a k serves) says))
   answered_row (with_stream kinds a k known asked ends) told gives_told takes_told = λ kinds' a' k' serves few.
-      of_these (λ ks x n. ((result ≡ Done) × OutputStands (IsTreeReply ks x n) left left' taken taken') ⊎ IsOutsideOfStream result) kinds a k (known told) kinds' a' k' serves (stream_answered (IsTreeReply kinds a k) gives_told takes_told few ends)
+      of_these (λ ks x n. ((result ≡ Done) × OutputStands (IsWalkReply ks x n) left left' taken taken') ⊎ IsOutsideOfStream result) kinds a k (known told) kinds' a' k' serves (stream_answered (IsWalkReply kinds a k) gives_told takes_told few ends)
 
   pub whole_row : EndsCall tells gives takes call left left' taken taken' result → IsTrue tells → IsTrue gives → IsTrue takes → DoneIsWhole call result left left' taken taken'
   whole_row (no_plan is kept) told gives_told takes_told = λ done kinds a k serves. absurd (cc (is, done))
@@ -347,19 +347,19 @@ module _ (tells gives takes : Bool) (call : Call) (left left' taken taken' : Lis
       let outside : IsOutside Done = subst IsOutside done (said_outside answer ((known told).alone kinds a k serves) says) in
       absurd (outside_untold Done outside tt)
   whole_row (with_stream kinds a k known asked ends) told gives_told takes_told = λ done kinds' a' k' serves.
-      of_these (λ ks x n. OutputStands (IsTreeReply ks x n) left left' taken taken') kinds a k (known told) kinds' a' k' serves (stream_done (IsTreeReply kinds a k) gives_told takes_told done ends)
+      of_these (λ ks x n. OutputStands (IsWalkReply ks x n) left left' taken taken') kinds a k (known told) kinds' a' k' serves (stream_done (IsWalkReply kinds a k) gives_told takes_told done ends)
 
   pub lines_row : EndsCall tells gives takes call left left' taken taken' result → IsTrue tells → IsTrue gives → IsTrue takes → FaultLeavesLines call result left left' taken taken'
   lines_row (no_plan is kept) told gives_told takes_told = λ read kinds a k serves. absurd (cc (is, read))
   lines_row (with_answer answer known formless says) told gives_told takes_told = λ read kinds a k serves. absurd (said_status answer says (inl read))
   lines_row (with_stream kinds a k known asked ends) told gives_told takes_told = λ read kinds' a' k' serves.
-      of_these (λ ks x n. LinesStand (IsTreeReply ks x n) left left' taken taken') kinds a k (known told) kinds' a' k' serves (stream_cut (IsTreeReply kinds a k) gives_told takes_told read ends)
+      of_these (λ ks x n. LinesStand (IsWalkReply ks x n) left left' taken taken') kinds a k (known told) kinds' a' k' serves (stream_cut (IsWalkReply kinds a k) gives_told takes_told read ends)
 
   pub refusal_row : EndsCall tells gives takes call left left' taken taken' result → IsTrue tells → IsTrue gives → IsTrue takes → RefusalIsTold call result left left' taken taken'
   refusal_row (no_plan is kept) told gives_told takes_told = λ long kinds a k serves. absurd (cc (is, long))
   refusal_row (with_answer answer known formless says) told gives_told takes_told = λ long kinds a k serves. absurd (said_status answer says (inr long))
   refusal_row (with_stream kinds a k known asked ends) told gives_told takes_told = λ long kinds' a' k' serves.
-      of_these (λ ks x n. RefusalStands (IsTreeReply ks x n) left taken taken') kinds a k (known told) kinds' a' k' serves (stream_refused (IsTreeReply kinds a k) gives_told takes_told long ends)
+      of_these (λ ks x n. RefusalStands (IsWalkReply ks x n) left taken taken') kinds a k (known told) kinds' a' k' serves (stream_refused (IsWalkReply kinds a k) gives_told takes_told long ends)
 
   part_said : (answer : Answer) → IsDueOrFailed call answer → result ≡ WriteFault → IsTrue takes → SaysLine takes answer taken taken' result → AppendsPrefix taken taken' (line_of answer)
   part_said answer due fault takes_told (said is wrote) = absurd (subst IsOfAnswer (sym is ∙ fault) (answer_status answer))
@@ -369,7 +369,7 @@ module _ (tells gives takes : Bool) (call : Call) (left left' taken taken' : Lis
   pub part_row : EndsCall tells gives takes call left left' taken taken' result → IsTrue tells → IsTrue gives → IsTrue takes → FaultLeavesBeginning call result left left' taken taken'
   part_row (no_plan is kept) told gives_told takes_told = λ fault. absurd (cc (is, fault))
   part_row (with_answer answer known formless says) told gives_told takes_told = λ fault. inl (answer, (known told).due, part_said answer (known told).due fault takes_told says)
-  part_row (with_stream kinds a k known asked ends) told gives_told takes_told = λ fault. inr (kinds, a, k, (known told).serves, stream_broken (IsTreeReply kinds a k) gives_told takes_told fault ends)
+  part_row (with_stream kinds a k known asked ends) told gives_told takes_told = λ fault. inr (kinds, a, k, (known told).serves, stream_broken (IsWalkReply kinds a k) gives_told takes_told fault ends)
 
   silent_said : (answer : Answer) → result ≡ Memory → IsTrue takes → SaysLine takes answer taken taken' result → taken' ≡ taken
   silent_said answer want takes_told (said is wrote) = absurd (subst IsOfAnswer (sym is ∙ want) (answer_status answer))
@@ -379,7 +379,7 @@ module _ (tells gives takes : Bool) (call : Call) (left left' taken taken' : Lis
   pub memory_row : EndsCall tells gives takes call left left' taken taken' result → IsTrue tells → IsTrue gives → IsTrue takes → WantLeavesBeginning call result left left' taken taken'
   memory_row (no_plan is kept) told gives_told takes_told = λ want. inl (kept takes_told)
   memory_row (with_answer answer known formless says) told gives_told takes_told = λ want. inl (silent_said answer want takes_told says)
-  memory_row (with_stream kinds a k known asked ends) told gives_told takes_told = λ want. inr (kinds, a, k, (known told).serves, stream_wants (IsTreeReply kinds a k) gives_told takes_told want ends)
+  memory_row (with_stream kinds a k known asked ends) told gives_told takes_told = λ want. inr (kinds, a, k, (known told).serves, stream_wants (IsWalkReply kinds a k) gives_told takes_told want ends)
 
   pub silent_row : EndsCall tells gives takes call left left' taken taken' result → IsTrue takes → AreNotOfRun call.words → result ≡ Memory → taken' ≡ taken
   silent_row (no_plan is kept) takes_told unasked want = kept takes_told
@@ -390,12 +390,12 @@ module _ (tells gives takes : Bool) (call : Call) (left left' taken taken' : Lis
   long_always : EndsCall tells gives takes call left left' taken taken' result → IsTrue tells → IsTrue gives → ServesSome call → most_of_stream < length left → (result ≡ InputTooLong) ⊎ IsOutsideOfStream result
   long_always (no_plan is kept) told gives_told some many = inr (inl (subst IsOutside (sym is) no_memory))
   long_always (with_answer answer known formless says) told gives_told some many = inr (inl (said_outside answer ((known told).alone some.kinds some.automaton some.kind some.serves) says))
-  long_always (with_stream kinds a k known asked ends) told gives_told some many = stream_over (IsTreeReply kinds a k) gives_told many ends
+  long_always (with_stream kinds a k known asked ends) told gives_told some many = stream_over (IsWalkReply kinds a k) gives_told many ends
 
   long_only : EndsCall tells gives takes call left left' taken taken' result → IsTrue gives → result ≡ InputTooLong → most_of_stream < length left
   long_only (no_plan is kept) gives_told long = absurd (cc (is, long))
   long_only (with_answer answer known formless says) gives_told long = absurd (said_status answer says (inr long))
-  long_only (with_stream kinds a k known asked ends) gives_told long = stream_long (IsTreeReply kinds a k) gives_told long ends
+  long_only (with_stream kinds a k known asked ends) gives_told long = stream_long (IsWalkReply kinds a k) gives_told long ends
 
   pub long_row : EndsCall tells gives takes call left left' taken taken' result → IsTrue tells → IsTrue gives → ComesForLongInput call result left
   long_row ends told gives_told = record {

@@ -5,8 +5,9 @@ use Rattle.std.proofs.lemmas.List.Elements.{All-nil}
 use Rattle.structure_check.specs.Rules.{TreeRules}
 use Rattle.reply_model.specs.declared.Command.{Command}
 use Rattle.reply_model.specs.declared.Reply.{Reply}
-use Rattle.reply_model.specs.Readings.{IsTreeReply}
-use Rattle.session_core.specs.Sessions.{SessionState, StandsFor, IsDue}
+use Rattle.reply_model.specs.WalkReadings.{IsWalkReply}
+use Rattle.session_core.specs.Sessions.{SessionState}
+use Rattle.session_core.specs.WalkSessions.{StandsForWalks, IsDueOverWalks}
 use Rattle.way_io.specs.Pieces.{AppendsPrefix}
 use Rattle.line_server.specs.Lines.{feed, LacksFeed, most_of_stream}
 use Rattle.line_server.specs.Outputs.{History, of_lines, none}
@@ -18,8 +19,8 @@ use Rattle.walker_cli.specs.Serving.{OutputStands, LinesStand, StandsUpTo, of_ou
 use Rattle.walker_cli.specs.Ending.{EndsStream, answered, cut_off, over_limit, broken_off, out_of_memory}
 
 -- what holds of the replies that are due to a session holds of those over its rules
-pub over_rules : (P : (History → Command → Reply → Type 0) → Type 0) (s : SessionState) (r : TreeRules) (k : ℕ) → s.rules ≡ r → s.kind ≡ k → P (IsDue s) → P (IsTreeReply r.kinds r.automaton k)
-over_rules P s r k rules kind holds = subst (λ (q : TreeRules). P (IsTreeReply q.kinds q.automaton k)) rules (subst (λ (n : ℕ). P (IsTreeReply s.rules.kinds s.rules.automaton n)) kind holds)
+pub over_rules : (P : (History → Command → Reply → Type 0) → Type 0) (s : SessionState) (r : TreeRules) (k : ℕ) → s.rules ≡ r → s.kind ≡ k → P (IsDueOverWalks s) → P (IsWalkReply r.kinds r.automaton k)
+over_rules P s r k rules kind holds = subst (λ (q : TreeRules). P (IsWalkReply q.kinds q.automaton k)) rules (subst (λ (n : ℕ). P (IsWalkReply s.rules.kinds s.rules.automaton n)) kind holds)
 
 -- where nothing was appended, the beginning of the output was
 pub nothing_begun : (Due : History → Command → Reply → Type 0) (left taken taken' : List ℕ) → taken' ≡ taken → IsBegun Due [] left taken taken'
@@ -29,35 +30,35 @@ nothing_begun Due left taken taken' same = record {
   written = record { rest = []; sent = record { sent = []; split = refl; appended = same ∙ sym (append-nil taken) } };
 }
 
-pub output_stands : (s new : SessionState) (left left' taken taken' : List ℕ) → StandsFor s [] → Continues s new (λ before after. IsServed (IsDue s) before left left' taken taken' after) → OutputStands (IsDue s) left left' taken taken'
+pub output_stands : (s new : SessionState) (left left' taken taken' : List ℕ) → StandsForWalks s [] → Continues s new (λ before after. IsServed (IsDueOverWalks s) before left left' taken taken' after) → OutputStands (IsDueOverWalks s) left left' taken taken'
 output_stands s new left left' taken taken' stands goes = let found = goes.stands [] stands in record { after = found.0; served = found.1 }
 
-pub lines_stand : (s new : SessionState) (left left' taken taken' : List ℕ) → StandsFor s [] → Continues s new (λ before after. IsCutOff (IsDue s) before left left' taken taken' after) → LinesStand (IsDue s) left left' taken taken'
+pub lines_stand : (s new : SessionState) (left left' taken taken' : List ℕ) → StandsForWalks s [] → Continues s new (λ before after. IsCutOff (IsDueOverWalks s) before left left' taken taken' after) → LinesStand (IsDueOverWalks s) left left' taken taken'
 lines_stand s new left left' taken taken' stands goes = let found = goes.stands [] stands in record { after = found.0; cut = found.1 }
 
-pub stands_up_to : (s new : SessionState) (left taken taken' : List ℕ) → StandsFor s [] → Continues s new (λ before after. IsOverrun (IsDue s) before left taken taken' after) → StandsUpTo (IsDue s) left taken taken'
+pub stands_up_to : (s new : SessionState) (left taken taken' : List ℕ) → StandsForWalks s [] → Continues s new (λ before after. IsOverrun (IsDueOverWalks s) before left taken taken' after) → StandsUpTo (IsDueOverWalks s) left taken taken'
 stands_up_to s new left taken taken' stands goes = let found = goes.stands [] stands in record { after = found.0; overrun = found.1 }
 
 -- the rows of a stream by the endings of the work on it
-module _ (gives takes : Bool) (s new : SessionState) (r : TreeRules) (k : ℕ) (left left' taken taken' : List ℕ) (rules : s.rules ≡ r) (kind : s.kind ≡ k) (stands : StandsFor s []) where
-  pub done_ends : (IsTrue gives → (left' ≡ []) × (length left ≤ most_of_stream)) → (IsTrue gives → IsTrue takes → Continues s new (λ before after. IsServed (IsDue s) before left left' taken taken' after)) → EndsStream gives takes (IsTreeReply r.kinds r.automaton k) left left' taken taken' Done
+module _ (gives takes : Bool) (s new : SessionState) (r : TreeRules) (k : ℕ) (left left' taken taken' : List ℕ) (rules : s.rules ≡ r) (kind : s.kind ≡ k) (stands : StandsForWalks s []) where
+  pub done_ends : (IsTrue gives → (left' ≡ []) × (length left ≤ most_of_stream)) → (IsTrue gives → IsTrue takes → Continues s new (λ before after. IsServed (IsDueOverWalks s) before left left' taken taken' after)) → EndsStream gives takes (IsWalkReply r.kinds r.automaton k) left left' taken taken' Done
   done_ends ended goes = over_rules (λ Due. EndsStream gives takes Due left left' taken taken' Done) s r k rules kind
       (answered refl (λ told. (ended told).1) (λ told takes_told. output_stands s new left left' taken taken' stands (goes told takes_told)))
 
-  pub unread_ends : (IsTrue gives → IsTrue takes → Continues s new (λ before after. IsCutOff (IsDue s) before left left' taken taken' after)) → EndsStream gives takes (IsTreeReply r.kinds r.automaton k) left left' taken taken' ReadFault
+  pub unread_ends : (IsTrue gives → IsTrue takes → Continues s new (λ before after. IsCutOff (IsDueOverWalks s) before left left' taken taken' after)) → EndsStream gives takes (IsWalkReply r.kinds r.automaton k) left left' taken taken' ReadFault
   unread_ends goes = over_rules (λ Due. EndsStream gives takes Due left left' taken taken' ReadFault) s r k rules kind
       (cut_off refl (λ told takes_told. lines_stand s new left left' taken taken' stands (goes told takes_told)))
 
-  pub unwritten_ends : (IsTrue gives → IsTrue takes → (before : History) → StandsFor s before → IsBegun (IsDue s) before left taken taken') → EndsStream gives takes (IsTreeReply r.kinds r.automaton k) left left' taken taken' WriteFault
+  pub unwritten_ends : (IsTrue gives → IsTrue takes → (before : History) → StandsForWalks s before → IsBegun (IsDueOverWalks s) before left taken taken') → EndsStream gives takes (IsWalkReply r.kinds r.automaton k) left left' taken taken' WriteFault
   unwritten_ends begun = over_rules (λ Due. EndsStream gives takes Due left left' taken taken' WriteFault) s r k rules kind
       (broken_off refl (λ told takes_told. of_output (begun told takes_told [] stands)))
 
-  pub memory_ends : (IsTrue gives → IsTrue takes → (before : History) → StandsFor s before → IsBegun (IsDue s) before left taken taken') → EndsStream gives takes (IsTreeReply r.kinds r.automaton k) left left' taken taken' Memory
+  pub memory_ends : (IsTrue gives → IsTrue takes → (before : History) → StandsForWalks s before → IsBegun (IsDueOverWalks s) before left taken taken') → EndsStream gives takes (IsWalkReply r.kinds r.automaton k) left left' taken taken' Memory
   memory_ends begun = over_rules (λ Due. EndsStream gives takes Due left left' taken taken' Memory) s r k rules kind
       (out_of_memory refl (λ told takes_told. begun told takes_told [] stands))
 
   -- `between` stands before the line of the status is written
-  pub over_ends : (between : List ℕ) (status : Status) → (status ≡ InputTooLong) ⊎ (status ≡ WriteFault) → (IsTrue gives → most_of_stream < length left) → (IsTrue gives → IsTrue takes → Continues s new (λ before after. IsOverrun (IsDue s) before left taken between after)) → (IsTrue takes → status ≡ InputTooLong → taken' ≡ between ++ too_long_line) → (IsTrue takes → AppendsPrefix between taken' too_long_line) → EndsStream gives takes (IsTreeReply r.kinds r.automaton k) left left' taken taken' status
+  pub over_ends : (between : List ℕ) (status : Status) → (status ≡ InputTooLong) ⊎ (status ≡ WriteFault) → (IsTrue gives → most_of_stream < length left) → (IsTrue gives → IsTrue takes → Continues s new (λ before after. IsOverrun (IsDueOverWalks s) before left taken between after)) → (IsTrue takes → status ≡ InputTooLong → taken' ≡ between ++ too_long_line) → (IsTrue takes → AppendsPrefix between taken' too_long_line) → EndsStream gives takes (IsWalkReply r.kinds r.automaton k) left left' taken taken' status
   over_ends between status (inl is) over goes told_line part = over_rules (λ Due. EndsStream gives takes Due left left' taken taken' status) s r k rules kind
       (over_limit is over (λ told takes_told. record { between = between; lines = stands_up_to s new left taken between stands (goes told takes_told); line = told_line takes_told is }))
   over_ends between status (inr is) over goes told_line part = over_rules (λ Due. EndsStream gives takes Due left left' taken taken' status) s r k rules kind

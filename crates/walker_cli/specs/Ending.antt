@@ -4,7 +4,7 @@ use Rattle.tile_model.specs.Tessellations.{TileKind}
 use Rattle.tree_model.specs.Automata.{TreeAutomaton}
 use Rattle.reply_model.specs.declared.Command.{Command}
 use Rattle.reply_model.specs.declared.Reply.{Reply}
-use Rattle.reply_model.specs.Readings.{IsTreeReply}
+use Rattle.reply_model.specs.WalkReadings.{IsWalkReply}
 use Rattle.way_io.specs.Pieces.{AppendsPrefix}
 use Rattle.line_server.specs.Lines.{most_of_stream}
 use Rattle.line_server.specs.Outputs.{History}
@@ -49,4 +49,4 @@ pub record IsSessionOf (call : Call) (kinds : List TileKind) (a : TreeAutomaton)
 pub data EndsCall (tells gives takes : Bool) (call : Call) (left left' taken taken' : List ℕ) (status : Status) : Type 0 where
   no_plan : status ≡ Memory → (IsTrue takes → taken' ≡ taken) → EndsCall tells gives takes call left left' taken taken' status
   with_answer : (answer : Answer) → (IsTrue tells → IsAnswerOf call answer) → (HaveNoForm call.words → answer ≡ Usage) → SaysLine takes answer taken taken' status → EndsCall tells gives takes call left left' taken taken' status
-  with_stream : (kinds : List TileKind) (a : TreeAutomaton) (k : ℕ) → (IsTrue tells → IsSessionOf call kinds a k) → ¬ AreNotOfRun call.words → EndsStream gives takes (IsTreeReply kinds a k) left left' taken taken' status → EndsCall tells gives takes call left left' taken taken' status
+  with_stream : (kinds : List TileKind) (a : TreeAutomaton) (k : ℕ) → (IsTrue tells → IsSessionOf call kinds a k) → ¬ AreNotOfRun call.words → EndsStream gives takes (IsWalkReply kinds a k) left left' taken taken' status → EndsCall tells gives takes call left left' taken taken' status

@@ -5,7 +5,7 @@ use Rattle.tile_model.specs.Tessellations.{TileKind}
 use Rattle.tree_model.specs.Automata.{TreeAutomaton}
 use Rattle.reply_model.specs.declared.Command.{Command}
 use Rattle.reply_model.specs.declared.Reply.{Reply}
-use Rattle.reply_model.specs.Readings.{IsTreeReply}
+use Rattle.reply_model.specs.WalkReadings.{IsWalkReply}
 use Rattle.way_io.specs.Pieces.{AppendsPrefix}
 use Rattle.line_server.specs.Lines.{most_of_stream}
 use Rattle.line_server.specs.Outputs.{History}
@@ -67,32 +67,32 @@ module _ (call : Call) where
     -- output was appended; unless the outside or memory fails.
     abbrev pub StreamIsAnswered : Type 0
     StreamIsAnswered = (kinds : List TileKind) (a : TreeAutomaton) (k : ℕ) → Serves call kinds a k → length left ≤ most_of_stream
-        → ((result ≡ Done) × OutputStands (IsTreeReply kinds a k) left left' taken taken') ⊎ IsOutsideOfStream result
+        → ((result ≡ Done) × OutputStands (IsWalkReply kinds a k) left left' taken taken') ⊎ IsOutsideOfStream result
 
     -- Done of such a call says so by itself.
     abbrev pub DoneIsWhole : Type 0
-    DoneIsWhole = result ≡ Done → (kinds : List TileKind) (a : TreeAutomaton) (k : ℕ) → Serves call kinds a k → OutputStands (IsTreeReply kinds a k) left left' taken taken'
+    DoneIsWhole = result ≡ Done → (kinds : List TileKind) (a : TreeAutomaton) (k : ℕ) → Serves call kinds a k → OutputStands (IsWalkReply kinds a k) left left' taken taken'
 
     -- ReadFault says that the output of the whole lines that were read stands.
     abbrev pub FaultLeavesLines : Type 0
-    FaultLeavesLines = result ≡ ReadFault → (kinds : List TileKind) (a : TreeAutomaton) (k : ℕ) → Serves call kinds a k → LinesStand (IsTreeReply kinds a k) left left' taken taken'
+    FaultLeavesLines = result ≡ ReadFault → (kinds : List TileKind) (a : TreeAutomaton) (k : ℕ) → Serves call kinds a k → LinesStand (IsWalkReply kinds a k) left left' taken taken'
 
     -- InputTooLong says that the output of the lines within the limit stands, and then its line.
     abbrev pub RefusalIsTold : Type 0
-    RefusalIsTold = result ≡ InputTooLong → (kinds : List TileKind) (a : TreeAutomaton) (k : ℕ) → Serves call kinds a k → RefusalStands (IsTreeReply kinds a k) left taken taken'
+    RefusalIsTold = result ≡ InputTooLong → (kinds : List TileKind) (a : TreeAutomaton) (k : ℕ) → Serves call kinds a k → RefusalStands (IsWalkReply kinds a k) left taken taken'
 
     -- WriteFault says that the beginning of what would otherwise stand does: of the line of an answer, or in a call that serves walkers of what
     -- they answer.
     abbrev pub FaultLeavesBeginning : Type 0
     FaultLeavesBeginning = result ≡ WriteFault
         → ((answer : Answer) × IsDueOrFailed call answer × AppendsPrefix taken taken' (line_of answer))
-        ⊎ ((kinds : List TileKind) × (a : TreeAutomaton) × (k : ℕ) × Serves call kinds a k × BeginningStands (IsTreeReply kinds a k) left taken taken')
+        ⊎ ((kinds : List TileKind) × (a : TreeAutomaton) × (k : ℕ) × Serves call kinds a k × BeginningStands (IsWalkReply kinds a k) left taken taken')
 
     -- Memory says that nothing was appended, or in a call that serves walkers the beginning of what they answer.
     abbrev pub WantLeavesBeginning : Type 0
     WantLeavesBeginning = result ≡ Memory
         → (taken' ≡ taken)
-        ⊎ ((kinds : List TileKind) × (a : TreeAutomaton) × (k : ℕ) × Serves call kinds a k × IsBegun (IsTreeReply kinds a k) [] left taken taken')
+        ⊎ ((kinds : List TileKind) × (a : TreeAutomaton) × (k : ℕ) × Serves call kinds a k × IsBegun (IsWalkReply kinds a k) [] left taken taken')
 
   -- InputTooLong comes exactly where the call serves walkers and the stream is over its limit, unless the outside or memory fails.
   pub record ComesForLongInput (result : Status) (left : List ℕ) : Type 0 where

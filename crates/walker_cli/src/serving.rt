@@ -1,6 +1,6 @@
 //! The commands of the input, answered.
 ghost use Rattle.std.specs.Prelude.{◌≡◌, ◌<◌, ◌⊎◌, ◌++◌, length, IsTrue};
-ghost use Rattle.reply_model.specs.Readings.{IsTreeReply};
+ghost use Rattle.reply_model.specs.WalkReadings.{IsWalkReply};
 ghost use Rattle.way_io.specs.Counts.{Rose};
 ghost use Rattle.way_io.specs.Pieces.{AppendsPrefix};
 ghost use Rattle.line_server.specs.Endings.{GivesInOrder, TakesMore};
@@ -24,7 +24,7 @@ pub fn serve_walkers<I: Source, O: Sink>(
     out: &mut O,
 ) -> Status
     requires { kind < length rules.now.kinds }
-    ensures ends { EndsStream I.tells O.tells (IsTreeReply rules.now.kinds rules.now.automaton kind) (I.left input.old) (I.left input.new) (O.taken out.old) (O.taken out.new) result }
+    ensures ends { EndsStream I.tells O.tells (IsWalkReply rules.now.kinds rules.now.automaton kind) (I.left input.old) (I.left input.new) (O.taken out.old) (O.taken out.new) result }
     ensures file_fault { result ≡ Status.FileFault → ⊥ }
     ensures read_cause { result ≡ Status.ReadFault → Rose (I.faults input.old) (I.faults input.new) }
     ensures write_cause { result ≡ Status.WriteFault → Rose (O.faults out.old) (O.faults out.new) }

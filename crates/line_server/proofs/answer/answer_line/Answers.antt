@@ -16,7 +16,7 @@ returns-then-is_empty c =
 pub returns-in_ok-reply-in-Ok : goal.returns-in_ok-reply-in-Ok
 returns-in_ok-reply-in-Ok c =
     let short : length c.args.line.now ≤ most_of_line = omega (arith, c.if-line-gt-LONGEST_LINE.false) in
-    on_ok c.write_reply.result (replies _ _ _ _ _ _ _ _ short c.in-Ok.ensures.spelt c.in_ok-reply-in-Ok.ensures.due c.in_ok-reply-in-Ok.ensures.stands c.apply.ensures.rules c.apply.ensures.kind) c.write_reply.ensures.written
+    on_ok c.write_reply.result (replies _ _ _ _ _ _ _ _ short c.in-Ok.ensures.spelt c.in_ok-reply-in-Ok.ensures.due_over_walks c.in_ok-reply-in-Ok.ensures.stands_over_walks c.apply.ensures.rules c.apply.ensures.kind) c.write_reply.ensures.written
 
 pub returns-in-Err-TooLong : goal.returns-in-Err-TooLong
 returns-in-Err-TooLong c =

@@ -8,19 +8,19 @@ pub returns-in_default-clause-ends : goal.returns-in_default-clause-ends
 returns-in_default-clause-ends g c = out_of_memory refl (λ told takes. nothing_begun _ _ _ _ refl)
 
 pub returns-in-Done-clause-ends : goal.returns-in-Done-clause-ends
-returns-in-Done-clause-ends g c = done_ends _ _ c.in-Ok.session c.serve.new.session c.args.rules.now c.args.kind _ _ _ _ c.in-Ok.ensures.rules c.in-Ok.ensures.kind c.in-Ok.ensures.stands (λ told. c.serve.ensures.ended told c.in-Done.is) (λ told takes. c.serve.ensures.done told takes c.in-Done.is)
+returns-in-Done-clause-ends g c = done_ends _ _ c.in-Ok.session c.serve.new.session c.args.rules.now c.args.kind _ _ _ _ c.in-Ok.ensures.rules c.in-Ok.ensures.kind c.in-Ok.ensures.stands_over_walks (λ told. c.serve.ensures.ended told c.in-Done.is) (λ told takes. c.serve.ensures.done told takes c.in-Done.is)
 
 pub returns-in-ReadFault-clause-ends : goal.returns-in-ReadFault-clause-ends
-returns-in-ReadFault-clause-ends g c = unread_ends _ _ c.in-Ok.session c.serve.new.session c.args.rules.now c.args.kind _ _ _ _ c.in-Ok.ensures.rules c.in-Ok.ensures.kind c.in-Ok.ensures.stands (λ told takes. c.serve.ensures.read_fault told takes c.in-ReadFault.is)
+returns-in-ReadFault-clause-ends g c = unread_ends _ _ c.in-Ok.session c.serve.new.session c.args.rules.now c.args.kind _ _ _ _ c.in-Ok.ensures.rules c.in-Ok.ensures.kind c.in-Ok.ensures.stands_over_walks (λ told takes. c.serve.ensures.read_fault told takes c.in-ReadFault.is)
 
 pub returns-in-InputTooLong-clause-ends : goal.returns-in-InputTooLong-clause-ends
-returns-in-InputTooLong-clause-ends g c = over_ends _ _ c.in-Ok.session c.serve.new.session c.args.rules.now c.args.kind _ _ _ _ c.in-Ok.ensures.rules c.in-Ok.ensures.kind c.in-Ok.ensures.stands _ c.refuse_input.result c.refuse_input.ensures.ends (λ told. c.serve.ensures.overrun told c.in-InputTooLong.is) (λ told takes. c.serve.ensures.input_too_long told takes c.in-InputTooLong.is) c.refuse_input.ensures.told c.refuse_input.ensures.prefix
+returns-in-InputTooLong-clause-ends g c = over_ends _ _ c.in-Ok.session c.serve.new.session c.args.rules.now c.args.kind _ _ _ _ c.in-Ok.ensures.rules c.in-Ok.ensures.kind c.in-Ok.ensures.stands_over_walks _ c.refuse_input.result c.refuse_input.ensures.ends (λ told. c.serve.ensures.overrun told c.in-InputTooLong.is) (λ told takes. c.serve.ensures.input_too_long told takes c.in-InputTooLong.is) c.refuse_input.ensures.told c.refuse_input.ensures.prefix
 
 pub returns-in-InputTooLong-clause-write_cause : goal.returns-in-InputTooLong-clause-write_cause
 returns-in-InputTooLong-clause-write_cause g c = λ fault. subst (λ n. Rose n (g.O.Sink.faults c.refuse_input.new.out)) (c.serve.ensures.unbroken c.in-InputTooLong.is) (c.refuse_input.ensures.cause fault)
 
 pub returns-in-WriteFault-clause-ends : goal.returns-in-WriteFault-clause-ends
-returns-in-WriteFault-clause-ends g c = unwritten_ends _ _ c.in-Ok.session c.serve.new.session c.args.rules.now c.args.kind _ _ _ _ c.in-Ok.ensures.rules c.in-Ok.ensures.kind c.in-Ok.ensures.stands c.serve.ensures.begun
+returns-in-WriteFault-clause-ends g c = unwritten_ends _ _ c.in-Ok.session c.serve.new.session c.args.rules.now c.args.kind _ _ _ _ c.in-Ok.ensures.rules c.in-Ok.ensures.kind c.in-Ok.ensures.stands_over_walks c.serve.ensures.begun
 
 pub returns-clause-ends : goal.returns-clause-ends
-returns-clause-ends g c = memory_ends _ _ c.in-Ok.session c.serve.new.session c.args.rules.now c.args.kind _ _ _ _ c.in-Ok.ensures.rules c.in-Ok.ensures.kind c.in-Ok.ensures.stands c.serve.ensures.begun
+returns-clause-ends g c = memory_ends _ _ c.in-Ok.session c.serve.new.session c.args.rules.now c.args.kind _ _ _ _ c.in-Ok.ensures.rules c.in-Ok.ensures.kind c.in-Ok.ensures.stands_over_walks c.serve.ensures.begun

@@ -1,4 +1,4 @@
-use Rattle.session_core.proofs.Going.{answered_due, answered_stands, same_command}
+use Rattle.session_core.proofs.Going.{answered_due, answered_stands, answered_due_over_walks, answered_stands_over_walks, same_command}
 use Rattle.session_core.proofs.session.Session.apply.Goals as goal
 
 pub returns-in-New-clause-due : goal.returns-in-New-clause-due
@@ -24,3 +24,27 @@ returns-in-Same-clause-due c = (same_command _ _ _ _ _ c.in-Same.is c.same.ensur
 
 pub returns-in-Same-clause-stands : goal.returns-in-Same-clause-stands
 returns-in-Same-clause-stands c = (same_command _ _ _ _ _ c.in-Same.is c.same.ensures).stands
+
+pub returns-in-New-clause-due_over_walks : goal.returns-in-New-clause-due_over_walks
+returns-in-New-clause-due_over_walks c = answered_due_over_walks _ _ _ _ _ c.in-New.is c.new_walker.ensures.answered
+
+pub returns-in-New-clause-stands_over_walks : goal.returns-in-New-clause-stands_over_walks
+returns-in-New-clause-stands_over_walks c = answered_stands_over_walks _ _ _ _ _ c.in-New.is c.new_walker.ensures.answered
+
+pub returns-in-Go-clause-due_over_walks : goal.returns-in-Go-clause-due_over_walks
+returns-in-Go-clause-due_over_walks c = answered_due_over_walks _ _ _ _ _ c.in-Go.is c.go.ensures.answered
+
+pub returns-in-Go-clause-stands_over_walks : goal.returns-in-Go-clause-stands_over_walks
+returns-in-Go-clause-stands_over_walks c = answered_stands_over_walks _ _ _ _ _ c.in-Go.is c.go.ensures.answered
+
+pub returns-in-At-clause-due_over_walks : goal.returns-in-At-clause-due_over_walks
+returns-in-At-clause-due_over_walks c = answered_due_over_walks _ _ _ _ _ c.in-At.is c.at.ensures
+
+pub returns-in-At-clause-stands_over_walks : goal.returns-in-At-clause-stands_over_walks
+returns-in-At-clause-stands_over_walks c = answered_stands_over_walks _ _ _ _ _ c.in-At.is c.at.ensures
+
+pub returns-in-Same-clause-due_over_walks : goal.returns-in-Same-clause-due_over_walks
+returns-in-Same-clause-due_over_walks c = (same_command _ _ _ _ _ c.in-Same.is c.same.ensures).due_over_walks
+
+pub returns-in-Same-clause-stands_over_walks : goal.returns-in-Same-clause-stands_over_walks
+returns-in-Same-clause-stands_over_walks c = (same_command _ _ _ _ _ c.in-Same.is c.same.ensures).stands_over_walks

@@ -2,9 +2,9 @@ use Rattle.std.proofs.Common.{◌≡◌, refl, sym, subst, ◌∙◌}
 use Rattle.std.specs.Prelude.{None}
 use Rattle.structure_check.specs.Rules.{AreSound}
 use Rattle.reply_model.specs.declared.Command.TheVariants.{New}
-use Rattle.reply_model.specs.declared.Reply.TheVariants.{Done, Taken}
-use Rattle.session_core.specs.Sessions.{SessionState, IsSession, walker_at, HasAnswered}
-use Rattle.session_core.proofs.Steps.{taken, with_walker}
+use Rattle.reply_model.specs.declared.Reply.TheVariants.{Taken}
+use Rattle.session_core.specs.Sessions.{SessionState, IsSession, walker_at}
+use Rattle.session_core.proofs.Steps.{taken}
 use Rattle.session_core.proofs.Standing.{answered}
 use Rattle.session_core.proofs.Going.{some_there, none_there, seen, has_made, made_session}
 use Rattle.session_core.proofs.session.Session.new_walker.Goals as goal
