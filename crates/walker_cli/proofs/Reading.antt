@@ -1,5 +1,5 @@
 -- What a list of words that begins with a form's word may ask for.
-use Rattle.std.proofs.Common.{◌≡◌, ℕ, List, [], ◌∷◌, codes, sym, ◌∙◌, ap, subst}
+use Rattle.std.proofs.Common.{◌≡◌, ℕ, List, [], ◌∷◌, codes, Option, Some, None, IfNone, sym, ◌∙◌, ap, subst}
 use Rattle.tile_model.specs.declared.Letter.{Letter}
 use Rattle.walk_words.specs.Text.{walk_text}
 use Rattle.walker_cli.specs.Tasks.{Task, TellType, CheckRules, RunSession, IsNumber, IsKindForm, IsRunForm, Ask}
@@ -57,6 +57,6 @@ run_task words tess digits rules is (RunSession t k r) ask =
 run_task words tess digits rules is (TellType t n w) ask = absurd (cc (is, ask.spelled))
 run_task words tess digits rules is (CheckRules t r) ask = absurd (cc (is, ask))
 
--- digits write one number
-pub one_number : (digits : List ℕ) (n m : ℕ) → IsNumber digits n → IsNumber digits m → n ≡ m
-one_number digits n m one two = sym one.value ∙ two.value
+pub if_none : {A : Type 0} (P : Type 0) (r : Option A) → P → IfNone r P
+if_none P (Some x) holds = tt
+if_none P None holds = holds

@@ -108,18 +108,16 @@ fn read_run<'a>(words: &'a [String]) -> Option<Form<'a>>
     ensures none { IfNone result (AreNotOfRun (map string_bytes words.now)) }
     ensures complete { (tess : List ℕ) (k : ℕ) (rules : List ℕ) → IsRunForm (map string_bytes words.now) tess k rules → MatchOption result ⊥ (λ form. task_of form ≡ RunSession tess k rules) }
 {
-    match words {
-        [form, tess, k, option, rules] if form.as_str() == "run" && option.as_str() == "--rules" =>
-            {
-                match number(k.as_str()) {
-                    Some(kind) => Some(Form::Run {
-                        tess: tess.as_str(),
-                        kind,
-                        rules: rules.as_str(),
-                    }),
-                    None => None,
-                }
-            }
-        _ => None,
+    let [form, tess, k, option, rules] = words else {
+        return None;
+    };
+    if form.as_str() != "run" || option.as_str() != "--rules" {
+        return None;
     }
+    let kind = number(k.as_str())?;
+    Some(Form::Run {
+        tess: tess.as_str(),
+        kind,
+        rules: rules.as_str(),
+    })
 }
