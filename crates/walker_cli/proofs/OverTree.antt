@@ -1,11 +1,10 @@
 -- What walks say of the output, the tree of the rules says too.
-use Rattle.std.proofs.Common.{◌≡◌, ◌≤◌, ℕ, List, [], ◌⊎◌, inl, inr, length}
+use Rattle.std.proofs.Common.{ℕ, List, [], inl, inr}
 use Rattle.tile_model.specs.Tessellations.{TileKind}
 use Rattle.tree_model.specs.Automata.{TreeAutomaton}
 use Rattle.reply_model.specs.Readings.{IsTreeReply}
 use Rattle.reply_model.specs.WalkReadings.{IsWalkReply}
 use Rattle.session_core.proofs.BothReadings.{readings_agree}
-use Rattle.line_server.specs.Outputs.{History}
 use Rattle.line_server.proofs.SameOutput.{output_again}
 use Rattle.walker_cli.specs.declared.status.Status.{Status}
 use Rattle.walker_cli.specs.Due.{Call, Serves}

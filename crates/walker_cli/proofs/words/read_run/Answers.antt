@@ -1,4 +1,4 @@
-use Rattle.std.proofs.Common.{◌≡◌, List, ℕ, [], ◌∷◌, map, codes, rules, Option, Some, None, IfNone}
+use Rattle.std.proofs.Common.{◌≡◌, map, codes, rules}
 use Rattle.std.specs.String.{string_bytes}
 use Rattle.walker_cli.specs.Tasks.{RunSession, AreNotOfRun}
 use Rattle.walker_cli.proofs.Lists.{five_words}
