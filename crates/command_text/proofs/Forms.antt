@@ -1,11 +1,11 @@
 -- No line spells two commands, and what spells none.
-use Rattle.std.proofs.Common.{◌≡◌, ◌≢◌, ℕ, List, [], ◌∷◌, ◌++◌, get_or, drop, arith, codes, Result, Ok, Err, IfOk, IsErrOf, MatchResult, refl, ap, ap₂, sym, ◌∙◌, subst}
+use Rattle.std.proofs.Common.{◌≡◌, ◌≢◌, ℕ, List, ◌++◌, get_or, drop, arith, codes, Result, Ok, Err, IfOk, IsErrOf, MatchResult, refl, ap, ap₂, sym, ◌∙◌, subst}
 use Rattle.tile_model.specs.declared.Letter.{Letter}
 use Rattle.reply_model.specs.declared.Command.{Command}
 use Rattle.reply_model.specs.declared.Command.TheVariants.{New, Go, At, Same}
 use Rattle.walk_words.specs.Text.{walk_text}
 use Rattle.walk_words.proofs.Codes.{one_walk}
-use Rattle.command_text.specs.Lines.{space, IsWalker, NamesOne, NamesTwo, NamesWalk, IsSpelling}
+use Rattle.command_text.specs.Lines.{IsWalker, IsSpelling}
 use Rattle.command_text.specs.declared.command.LineFault.{LineFault}
 use Rattle.command_text.specs.declared.command.LineFault.TheVariants.{TooLong, Bad, Memory}
 use Rattle.command_text.specs.Words.{IsInFront}

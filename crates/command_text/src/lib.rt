@@ -8,4 +8,4 @@ mod tests;
 
 pub use command::{LONGEST_LINE, LineFault, read_line};
 pub use reply::{bad_line, print_reply, too_long_line, write_reply};
-pub use reply_model::{Command, Reply};
+pub use reply_model::{Bytes, Command, Reply};

@@ -10,7 +10,7 @@ use Rattle.session_core.specs.Sessions.{SessionState}
 use Rattle.session_core.specs.WalkSessions.{StandsForWalks, IsDueOverWalks}
 use Rattle.line_server.specs.Lines.{most_of_line}
 use Rattle.line_server.specs.Outputs.{History, IsAnswered, too_long, empty, bad, replied}
-use Rattle.line_server.specs.Sessions.{Continues, AnswersLine}
+use Rattle.line_server.specs.Sessions.{AnswersLine}
 use Rattle.line_server.specs.Readers.{HasReplied}
 
 -- what follows from what holds after Ok

@@ -6,10 +6,10 @@ use Rattle.reply_model.specs.declared.Reply.{Reply}
 use Rattle.structure_check.specs.Rules.{TreeRules}
 use Rattle.reply_model.specs.WalkReadings.{IsWalkReply}
 use Rattle.session_core.specs.Sessions.{SessionState}
-use Rattle.session_core.specs.WalkSessions.{StandsForWalks, IsDueOverWalks}
+use Rattle.session_core.specs.WalkSessions.{IsDueOverWalks}
 use Rattle.line_server.specs.Lines.{feed, ended, text_of}
 use Rattle.line_server.specs.Outputs.{History, IsAnswered, AreAnswered, none, next}
-use Rattle.line_server.specs.Sessions.{Continues, AnswersLine, AnswersLines}
+use Rattle.line_server.specs.Sessions.{AnswersLine, AnswersLines}
 
 pub ended_append : (lines more : List (List ℕ)) → ended (lines ++ more) ≡ ended lines ++ ended more
 ended_append [] more = refl

@@ -7,7 +7,7 @@ use Rattle.session_core.specs.WalkSessions.{StandsForWalks, IsDueOverWalks}
 use Rattle.line_server.specs.declared.reader.Stop.{Stop}
 use Rattle.line_server.specs.declared.reader.Stop.TheVariants.{Write, Memory as NoMemory}
 use Rattle.line_server.specs.declared.stream.Ending.{Ending}
-use Rattle.line_server.specs.declared.stream.Ending.TheVariants.{Done, ReadFault, InputTooLong, WriteFault, Memory}
+use Rattle.line_server.specs.declared.stream.Ending.TheVariants.{Done, ReadFault, InputTooLong}
 use Rattle.line_server.specs.Lines.{most_of_stream}
 use Rattle.line_server.specs.Outputs.{History, IsOutput, of_lines, of_all}
 use Rattle.line_server.specs.Sessions.{Continues}

@@ -1,18 +1,18 @@
 -- On the way through the lines of a piece.
-use Rattle.std.proofs.Common.{◌≡◌, ℕ, ◌+◌, ◌-◌, ◌<◌, ◌≤◌, Bool, true, false, IsTrue, List, [], ◌∷◌, ◌++◌, length, drop, refl, sym, ap, ◌∙◌, subst, arith}
+use Rattle.std.proofs.Common.{◌≡◌, ℕ, ◌-◌, Bool, false, IsTrue, List, [], ◌∷◌, ◌++◌, length, drop, refl, sym, ap, ◌∙◌, subst}
 use Rattle.std.specs.List.{All}
 use Rattle.std.proofs.Math.Nat.{add-sub_cancel}
 use Rattle.std.proofs.Math.Seq.{drop-append_seam}
 use Rattle.std.proofs.lemmas.Bool.{false≢true}
 use Rattle.std.proofs.lemmas.List.{append_assoc, append-nil, length-append}
 use Rattle.std.proofs.lemmas.List.Elements.{All-nil, All-push, All-append}
-use Rattle.way_io.specs.Pieces.{IsSent, AppendsPrefix}
+use Rattle.way_io.specs.Pieces.{AppendsPrefix}
 use Rattle.session_core.specs.Sessions.{SessionState}
 use Rattle.session_core.specs.WalkSessions.{StandsForWalks, IsDueOverWalks}
-use Rattle.line_server.specs.Lines.{feed, LacksFeed, AreCut, ended, text_of}
+use Rattle.line_server.specs.Lines.{feed, LacksFeed, ended, text_of}
 use Rattle.line_server.specs.Outputs.{History, AreAnswered}
 use Rattle.line_server.specs.Sessions.{AnswersLines}
-use Rattle.line_server.specs.Readers.{AreDropped, HasReplied, HasWritten, HasAnswered, HasComeTo, HasStopped}
+use Rattle.line_server.specs.Readers.{AreDropped, HasReplied, HasWritten, HasComeTo, HasStopped}
 use Rattle.line_server.proofs.Chains.{ended_append, answers_then, line_alone, no_lines}
 
 -- Some lines of the bytes were answered. Their answers are written, and then wait. What is hidden was dropped, and `rest` stands behind it.

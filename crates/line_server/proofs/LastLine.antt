@@ -1,9 +1,9 @@
 -- The last line of a stream, which no line feed ends.
-use Rattle.std.proofs.Common.{◌≡◌, ℕ, Bool, false, IsTrue, List, [], ◌++◌, length, take, sym, ap, ◌∙◌, subst}
+use Rattle.std.proofs.Common.{◌≡◌, ℕ, Bool, IsTrue, List, [], ◌++◌, take, sym, ap, ◌∙◌, subst}
 use Rattle.way_io.specs.Pieces.{AppendsPrefix}
 use Rattle.session_core.specs.Sessions.{SessionState}
 use Rattle.line_server.specs.declared.reader.Reader.{Reader}
-use Rattle.line_server.specs.Readers.{Keeps, AreDropped, IsTextBehind, HasReplied, HasEnded, HasFailed, nothing, partly}
+use Rattle.line_server.specs.Readers.{Keeps, AreDropped, IsTextBehind, HasReplied, HasEnded, HasFailed, partly}
 use Rattle.line_server.proofs.Keeping.{splits}
 
 -- the reply to what is kept is the reply to the line

@@ -1,5 +1,5 @@
 -- Each line has one answer and each stream one output, and the answers to the first lines begin it.
-use Rattle.std.proofs.Common.{◌≡◌, ◌≢◌, ℕ, ◌<◌, ◌≤◌, List, [], ◌∷◌, ◌++◌, length, refl, sym, ap, ap₂, ◌∙◌, subst, arith}
+use Rattle.std.proofs.Common.{◌≡◌, ℕ, List, [], ◌∷◌, ◌++◌, refl, sym, ap, ap₂, ◌∙◌, subst, arith}
 use Rattle.std.proofs.lemmas.List.{append_assoc, append-nil}
 use Rattle.reply_model.specs.declared.Command.{Command}
 use Rattle.reply_model.specs.declared.Command.TheVariants.{New, Go, At, Same}
@@ -7,7 +7,7 @@ use Rattle.reply_model.specs.declared.Reply.{Reply}
 use Rattle.command_text.specs.Lines.{IsSpelling}
 use Rattle.command_text.specs.Replies.{reply_text}
 use Rattle.command_text.proofs.Forms.{unique}
-use Rattle.line_server.specs.Lines.{ended, text_of}
+use Rattle.line_server.specs.Lines.{ended}
 use Rattle.line_server.specs.Outputs.{History, IsAnswered, too_long, empty, bad, replied, AreAnswered, none, next, IsOutput, IsFrontOutput, of_lines, of_all}
 use Rattle.line_server.specs.Laws.{Begins}
 use Rattle.line_server.proofs.Once.{cut_front, one_cut}

@@ -1,5 +1,5 @@
 -- Where replies are due alike, so are outputs.
-use Rattle.std.proofs.Common.{◌≡◌, ℕ, List}
+use Rattle.std.proofs.Common.{ℕ, List}
 use Rattle.reply_model.specs.declared.Command.{Command}
 use Rattle.reply_model.specs.declared.Reply.{Reply}
 use Rattle.line_server.specs.Outputs.{History, IsAnswered, too_long, empty, bad, replied, AreAnswered, none, next, IsOutput}

@@ -1,19 +1,18 @@
 -- The way through a stream, piece by piece, and its ends.
-use Rattle.std.proofs.Common.{◌≡◌, ◌≢◌, ℕ, ◌+◌, ◌<◌, ◌≤◌, Bool, IsTrue, List, [], ◌∷◌, ◌++◌, length, take, drop, refl, sym, ap, ◌∙◌, subst, arith}
-use Rattle.std.specs.List.{All}
+use Rattle.std.proofs.Common.{◌≡◌, ◌≢◌, ℕ, ◌+◌, ◌≤◌, Bool, IsTrue, List, [], ◌++◌, length, refl, sym, ap, ◌∙◌, subst, arith}
 use Rattle.std.proofs.lemmas.List.{append_assoc, append-nil, length-append}
 use Rattle.std.proofs.lemmas.List.Elements.{All-nil, All-append}
-use Rattle.way_io.specs.Pieces.{IsSent, AppendsPrefix}
+use Rattle.way_io.specs.Pieces.{AppendsPrefix}
 use Rattle.session_core.specs.Sessions.{SessionState}
-use Rattle.session_core.specs.WalkSessions.{StandsForWalks, IsDueOverWalks}
+use Rattle.session_core.specs.WalkSessions.{IsDueOverWalks}
 use Rattle.line_server.specs.declared.reader.Reader.{Reader}
 use Rattle.line_server.specs.declared.reader.Stop.{Stop}
 use Rattle.line_server.specs.declared.reader.Stop.TheVariants.{Memory}
 use Rattle.line_server.specs.declared.stream.Ending.TheVariants.{Done, ReadFault, InputTooLong}
-use Rattle.line_server.specs.Lines.{feed, LacksFeed, AreCut, ended, text_of, most_of_stream}
-use Rattle.line_server.specs.Outputs.{History, IsAnswered, AreAnswered, none, IsLinesOutput, IsOutput, IsFrontOutput, of_lines, of_all}
+use Rattle.line_server.specs.Lines.{feed, LacksFeed, AreCut, ended, most_of_stream}
+use Rattle.line_server.specs.Outputs.{IsAnswered, AreAnswered, none, IsLinesOutput, IsOutput, of_lines, of_all}
 use Rattle.line_server.specs.Sessions.{Continues, AnswersLine, AnswersLines}
-use Rattle.line_server.specs.Readers.{Keeps, HasRead, HasAnswered, HasStopped, HasEnded, HasFailed, nothing, partly}
+use Rattle.line_server.specs.Readers.{Keeps, HasRead, HasStopped, HasEnded, HasFailed, nothing, partly}
 use Rattle.line_server.specs.Serving.{EndsAs, ends_done, ends_unread, ends_over, ends_stopped, ending_of}
 use Rattle.line_server.proofs.Chains.{ended_append, answers_append, answers_then, due_stays, no_lines}
 

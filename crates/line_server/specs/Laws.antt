@@ -1,11 +1,10 @@
 -- What the outputs of streams come to.
-use Rattle.std.specs.Prelude.{◌≡◌, ◌↔◌, ℕ, ◌≤◌, List, ◌++◌, length}
+use Rattle.std.specs.Prelude.{◌≡◌, ◌↔◌, ℕ, List, ◌++◌}
 use Rattle.tile_model.specs.Tessellations.{TileKind}
 use Rattle.tree_model.specs.Automata.{TreeAutomaton}
 use Rattle.reply_model.specs.Readings.{IsTreeReply}
 use Rattle.reply_model.specs.WalkReadings.{IsWalkReply}
-use Rattle.line_server.specs.Lines.{most_of_stream}
-use Rattle.line_server.specs.Outputs.{History, IsOutput, IsLinesOutput, IsFrontOutput}
+use Rattle.line_server.specs.Outputs.{History, IsOutput, IsFrontOutput}
 
 -- the bytes begin with these
 pub record Begins (bytes front : List ℕ) : Type 0 where

@@ -1,5 +1,5 @@
 -- What a session goes through while it answers lines.
-use Rattle.std.specs.Prelude.{◌≡◌, ℕ, List, ◌++◌}
+use Rattle.std.specs.Prelude.{◌≡◌, ℕ, List}
 use Rattle.session_core.specs.Sessions.{SessionState}
 use Rattle.session_core.specs.WalkSessions.{StandsForWalks, IsDueOverWalks}
 use Rattle.line_server.specs.Outputs.{History, IsAnswered, AreAnswered}

@@ -1,6 +1,11 @@
 //! What walkers are told to do and what they reply: the commands, the replies, and which reply a command has after a history of commands.
 #![tactic(auto)]
 
+mod bytes;
+#[cfg(test)]
+mod tests;
+
+pub use bytes::Bytes;
 use cell_names::Name;
 use walk_words::Walk;
 

@@ -4,5 +4,6 @@ pub mod Between
 pub mod Steps
 pub mod Depth
 pub mod BothReadings
+pub mod BetweenWalks
 pub mod Standing
 pub mod Going

@@ -9,6 +9,7 @@ use Rattle.reply_model.specs.declared.Reply.{Reply}
 use Rattle.reply_model.specs.Readings.{IsTreeReply}
 use Rattle.reply_model.specs.WalkReadings.{IsWalkReply}
 use Rattle.session_core.specs.Sessions.{AreDue}
+use Rattle.session_core.specs.WalkSessions.{AreDueOverWalks}
 
 -- the command alone where it makes or moves a walker, else nothing
 abbrev pub as_move : Command → List Command
@@ -30,6 +31,13 @@ module _ (kinds : List TileKind) (a : TreeAutomaton) (k : ℕ) where
   -- reply to `at` that is due after one is due after the other.
   abbrev pub InterleavingsAgree : Type 0
   InterleavingsAgree = (history other : List (Command × Reply)) → AreDue kinds a k history → AreDue kinds a k other → moves history ≡ moves other → (w : ℕ) (x : Reply) → IsTreeReply kinds a k history (At w) x → IsTreeReply kinds a k other (At w) x
+
+  -- Both are so over walks.
+  abbrev pub RepliesAreOneOverWalks : Type 0
+  RepliesAreOneOverWalks = (history : List (Command × Reply)) (c : Command) (x y : Reply) → IsWalkReply kinds a k history c x → IsWalkReply kinds a k history c y → x ≡ y
+
+  abbrev pub InterleavingsAgreeOverWalks : Type 0
+  InterleavingsAgreeOverWalks = (history other : List (Command × Reply)) → AreDueOverWalks kinds a k history → AreDueOverWalks kinds a k other → moves history ≡ moves other → (w : ℕ) (x : Reply) → IsWalkReply kinds a k history (At w) x → IsWalkReply kinds a k other (At w) x
 
   -- A reply is due by what the tree says exactly where it is due by what walks say.
   abbrev pub ReadingsAgree : Type 0

@@ -61,13 +61,13 @@ pub fn read_walk(alloc: Global, bytes: &[u8]) -> Result<Walk, WalkFault>
     ensures complete { (walk : List Letter) → walk_text walk ≡ bytes.now → MatchResult result (λ w. w ≡ walk) (λ fault. fault ≡ WalkFault.Memory) }
     ensures text { IsErrOf result WalkFault.Text → (walk : List Letter) → walk_text walk ≢ bytes.now }
 {
-    let mut walk = Walk::new(alloc);
     if bytes == b"-".as_slice() {
-        return Ok(walk);
+        return Ok(Walk::new(alloc));
     }
     if bytes.is_empty() {
         return Err(WalkFault::Text);
     }
+    let mut walk = Walk::with_capacity(alloc, bytes.len())?;
     for byte in bytes {
         let Some(x) = letter_of(*byte) else {
             return Err(WalkFault::Text);

@@ -34,6 +34,14 @@ impl Walk {
         }
     }
 
+    /// The empty walk, with memory for so many letters.
+    pub(crate) fn with_capacity(alloc: Global, capacity: usize) -> Result<Walk, AllocError>
+        ensures { IfOk result (λ w. w ≡ []) }
+    {
+        let letters = Vec::with_capacity(alloc, capacity)?;
+        Ok(Walk { letters })
+    }
+
     /// Adds a letter at the end. Without memory the walk stays as it was.
     pub fn push(&mut self, x: Letter) -> Result<(), AllocError>
         ensures added { OnOk result (self.new ≡ self.old ++ x ∷ []) }

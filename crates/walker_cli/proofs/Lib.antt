@@ -7,3 +7,4 @@ pub mod Settling
 pub mod Ending
 pub mod Streams
 pub mod Plans
+pub mod OverTree

@@ -5,6 +5,7 @@ use Rattle.tile_model.specs.Tessellations.{TileKind}
 use Rattle.tree_model.specs.Automata.{TreeAutomaton}
 use Rattle.reply_model.specs.declared.Command.{Command}
 use Rattle.reply_model.specs.declared.Reply.{Reply}
+use Rattle.reply_model.specs.Readings.{IsTreeReply}
 use Rattle.reply_model.specs.WalkReadings.{IsWalkReply}
 use Rattle.way_io.specs.Pieces.{AppendsPrefix}
 use Rattle.line_server.specs.Lines.{most_of_stream}
@@ -68,6 +69,11 @@ module _ (call : Call) where
     abbrev pub StreamIsAnswered : Type 0
     StreamIsAnswered = (kinds : List TileKind) (a : TreeAutomaton) (k : ℕ) → Serves call kinds a k → length left ≤ most_of_stream
         → ((result ≡ Done) × OutputStands (IsWalkReply kinds a k) left left' taken taken') ⊎ IsOutsideOfStream result
+
+    -- The same, where it is the tree of the rules that tells which reply is due.
+    abbrev pub StreamIsAnsweredOverTree : Type 0
+    StreamIsAnsweredOverTree = (kinds : List TileKind) (a : TreeAutomaton) (k : ℕ) → Serves call kinds a k → length left ≤ most_of_stream
+        → ((result ≡ Done) × OutputStands (IsTreeReply kinds a k) left left' taken taken') ⊎ IsOutsideOfStream result
 
     -- Done of such a call says so by itself.
     abbrev pub DoneIsWhole : Type 0

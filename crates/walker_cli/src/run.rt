@@ -8,7 +8,7 @@ ghost use Rattle.walker_cli.specs.Tasks.{HaveNoForm, AreNotOfRun};
 ghost use Rattle.walker_cli.specs.Due.{IsDue};
 ghost use Rattle.walker_cli.specs.Lines.{line_of};
 ghost use Rattle.walker_cli.specs.Outcome.{Appends, ComesExactly, TellsType, TellsAccepted, Gives};
-ghost use Rattle.walker_cli.specs.Serving.{ServesSome, StreamIsAnswered, DoneIsWhole, FaultLeavesLines, RefusalIsTold, FaultLeavesBeginning, WantLeavesBeginning, ComesForLongInput};
+ghost use Rattle.walker_cli.specs.Serving.{ServesSome, StreamIsAnswered, StreamIsAnsweredOverTree, DoneIsWhole, FaultLeavesLines, RefusalIsTold, FaultLeavesBeginning, WantLeavesBeginning, ComesForLongInput};
 ghost use Rattle.walker_cli.specs.Ending.{EndsCall};
 
 use crate::answer::{Answer, Role};
@@ -38,6 +38,8 @@ pub fn run<F: Files, I: Source, O: Sink>(
         → Gives result Status.Done (Appends O.tells (O.taken out.old) (O.taken out.new)) line }
     ensures answered { IsTrue F.tells → IsTrue I.tells → IsTrue O.tells
         → StreamIsAnswered (record { words = map string_bytes words.now; contents = F.contents files.old }) result (I.left input.old) (I.left input.new) (O.taken out.old) (O.taken out.new) }
+    ensures answered_over_tree { IsTrue F.tells → IsTrue I.tells → IsTrue O.tells
+        → StreamIsAnsweredOverTree (record { words = map string_bytes words.now; contents = F.contents files.old }) result (I.left input.old) (I.left input.new) (O.taken out.old) (O.taken out.new) }
 
     // The table of answers: where each status comes, and with which line. Done comes so unless the call serves walkers.
     ensures done { IsTrue F.tells → ServesSome (record { words = map string_bytes words.now; contents = F.contents files.old })

@@ -1,4 +1,4 @@
-use Rattle.std.proofs.Common.{◌≡◌, ℕ, decimal, suc, ◌<◌, ◌*◌, List, ◌∷◌, ◌++◌, length, sym, ◌∙◌, ap, arith}
+use Rattle.std.proofs.Common.{◌≡◌, ℕ, decimal, suc, ◌<◌, List, ◌∷◌, ◌++◌, length, sym, ◌∙◌, ap, arith}
 use Rattle.std.proofs.lemmas.List.{append_assoc}
 use Rattle.std.proofs.lemmas.List.Elements.{All-rest}
 use Rattle.cell_names.specs.Text.{name_text}
@@ -14,8 +14,8 @@ loop-side-init c =
     let count : length c.args.name.now ≡ suc (length others) = ap length split in
     let written = c.put_side.ensures.written ∙ ap (λ (l : List ℕ). l ++ decimal first) c.reserve.ensures.items in (
       ap (λ (l : List ℕ). l ++ behind others) written
-      ∙ append_assoc start (decimal first) (behind others)
-      ∙ ap (λ (l : List ℕ). start ++ l) (sym (name_text-cons first others) ∙ ap name_text (sym split)),
+          ∙ append_assoc start (decimal first) (behind others)
+          ∙ ap (λ (l : List ℕ). start ++ l) (sym (name_text-cons first others) ∙ ap name_text (sym split)),
       omega (arith, count, c.len.ensures, c.in-Some-checked_mul.ensures, c.in_ok-reserve.ensures.ok, c.put_side.ensures.len, c.put_side.ensures.capacity),
     )
 

@@ -1,4 +1,3 @@
-use Rattle.std.proofs.Common.{length}
 use Rattle.command_text.proofs.Strips.{strip_some, strip_none}
 use Rattle.command_text.proofs.command.strip.Goals as goal
 

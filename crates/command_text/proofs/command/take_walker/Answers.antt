@@ -1,4 +1,4 @@
-use Rattle.std.proofs.Common.{◌≡◌, ℕ, List, sym, ◌∙◌, subst}
+use Rattle.std.proofs.Common.{ℕ, List, sym, ◌∙◌, subst}
 use Rattle.command_text.specs.Lines.{IsWalker}
 use Rattle.command_text.proofs.Words.{lacks_none, one_split, walker_lacks}
 use Rattle.command_text.proofs.Strips.{if_err}

@@ -1,4 +1,4 @@
-use Rattle.std.proofs.Common.{◌≡◌, ◌≢◌, ℕ, ◌<◌, ◌≤◌, [], Err, length, ◌++◌, ◌∙◌, ap, arith}
+use Rattle.std.proofs.Common.{◌≢◌, ◌≤◌, [], Err, length, ◌++◌, ◌∙◌, ap, arith}
 use Rattle.std.proofs.lemmas.Bool.Decides.{nat_tests}
 use Rattle.line_server.specs.Lines.{most_of_line}
 use Rattle.line_server.proofs.Answering.{on_ok, on_extended, nothing, says_too_long, says_nothing, says_bad, replies}

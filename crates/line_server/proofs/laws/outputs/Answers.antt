@@ -1,5 +1,3 @@
-use Rattle.reply_model.specs.declared.Command.{Command}
-use Rattle.reply_model.specs.declared.Reply.{Reply}
 use Rattle.reply_model.specs.Readings.{IsTreeReply}
 use Rattle.reply_model.specs.WalkReadings.{IsWalkReply}
 use Rattle.session_core.proofs.Between.{replies_are_one}

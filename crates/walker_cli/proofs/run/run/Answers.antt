@@ -1,6 +1,7 @@
 use Rattle.std.proofs.Common.{inl}
 use Rattle.walker_cli.specs.declared.status.Status.TheVariants.{Usage, FileTooLong, TessRefused, RulesText, NotAccepted}
 use Rattle.walker_cli.proofs.Ending.{exactly, done_row, type_row, accepted_row, no_form_row, fault_row, serves_some, no_stream, answered_row, whole_row, lines_row, refusal_row, part_row, memory_row, silent_row, long_row}
+use Rattle.walker_cli.proofs.OverTree.{answered_over_tree}
 use Rattle.walker_cli.proofs.run.run.Goals as goal
 
 pub returns-clause-type_told : goal.returns-clause-type_told
@@ -8,6 +9,9 @@ returns-clause-type_told g c = λ told line row. type_row _ _ _ _ _ _ _ _ _ c.ca
 
 pub returns-clause-rules_accepted : goal.returns-clause-rules_accepted
 returns-clause-rules_accepted g c = λ told line row. accepted_row _ _ _ _ _ _ _ _ _ c.carry_out_plan.ensures.ends told line row
+
+pub returns-clause-answered_over_tree : goal.returns-clause-answered_over_tree
+returns-clause-answered_over_tree g c = λ told gives takes. answered_over_tree _ _ _ _ _ _ (answered_row _ _ _ _ _ _ _ _ _ c.carry_out_plan.ensures.ends told gives takes)
 
 pub returns-clause-answered : goal.returns-clause-answered
 returns-clause-answered g c = λ told gives takes. answered_row _ _ _ _ _ _ _ _ _ c.carry_out_plan.ensures.ends told gives takes

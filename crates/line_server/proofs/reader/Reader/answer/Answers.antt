@@ -1,4 +1,4 @@
-use Rattle.std.proofs.Common.{◌≡◌, ◌+◌, take, refl, ap, subst}
+use Rattle.std.proofs.Common.{◌+◌, take, refl, ap, subst}
 use Rattle.line_server.specs.Readers.{HasComeTo}
 use Rattle.line_server.proofs.Answering.{on_err}
 use Rattle.line_server.proofs.Keeping.{stopped_at, has_read}

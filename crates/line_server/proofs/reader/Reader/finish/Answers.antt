@@ -1,4 +1,4 @@
-use Rattle.std.proofs.Common.{◌≡◌, ℕ, List, [], ◌++◌, take, sym, ap, ◌∙◌, subst}
+use Rattle.std.proofs.Common.{◌++◌, take, ap, ◌∙◌, subst}
 use Rattle.way_io.specs.Pieces.{AppendsPrefix}
 use Rattle.line_server.proofs.Answering.{on_err}
 use Rattle.line_server.proofs.LastLine.{last_replied, ends, fails_writing}
