@@ -1,6 +1,7 @@
 -- The table of answers: which answer is due to the words and to what the files hold, no fault of the outside and no want of memory coming
 -- between, and over which rules walkers are served instead.
-use Rattle.std.specs.Prelude.{ℕ, ◌<◌, List, length, Option}
+use Rattle.std.specs.Prelude.{ℕ, ◌<◌, List, String, length, map, Option}
+use Rattle.std.specs.String.{string_bytes}
 use Rattle.tile_model.specs.declared.Letter.{Letter}
 use Rattle.tile_model.specs.Tessellations.{TileKind}
 use Rattle.tile_model.specs.Walks.{type_of}
@@ -18,6 +19,10 @@ use Rattle.walker_cli.specs.Held.{Loaded, Refused, Holds, IsTess, IsRules, tess_
 pub record Call : Type 0 where
   pub words : List (List ℕ)
   pub contents : List ℕ → Option (List ℕ)
+
+-- the call with these words, where the files hold this
+abbrev pub call_of : {Z : Type 0} → List (String Z) → (List ℕ → Option (List ℕ)) → Call
+call_of words contents = record { words = map string_bytes words; contents = contents }
 
 pub data IsDue (call : Call) : Answer → Type 0 where
   -- the words are in no form

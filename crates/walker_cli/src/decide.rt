@@ -7,7 +7,7 @@ ghost use Rattle.way_io.specs.Counts.{Rose};
 ghost use Rattle.way_io.specs.Contents.{KeepsAll};
 ghost use Rattle.walker_cli.specs.Tasks.{TellType, CheckRules, RunSession, Ask, HaveNoForm, AreNotOfRun};
 ghost use Rattle.walker_cli.specs.Forms.{task_of};
-ghost use Rattle.walker_cli.specs.Due.{IsDue, Serves};
+ghost use Rattle.walker_cli.specs.Due.{IsDue, Serves, call_of};
 ghost use Rattle.walker_cli.specs.Loading.{IsDueOf, ComesTo, ComesToServe, Says, SaysSome, ServesOver, HasKind, IsFileFault, TellsFault, IsPlanDue, Settles};
 
 use crate::answer::{Answer, Role};
@@ -159,10 +159,10 @@ fn carry_out<F: Files>(alloc: Global, form: &Form, files: &mut F) -> Result<Plan
 
 /// What a call comes to. Only want of memory keeps it from a plan.
 pub fn decide<F: Files>(alloc: Global, words: &[String], files: &mut F) -> Result<Plan, AllocError>
-    ensures due { IsTrue F.tells → IfOk result (IsPlanDue (record { words = map string_bytes words.now; contents = F.contents files.old })) }
-    ensures exact { IsTrue F.tells → (answer : Answer) → IsDue (record { words = map string_bytes words.now; contents = F.contents files.old }) answer
+    ensures due { IsTrue F.tells → IfOk result (IsPlanDue (call_of words.now (F.contents files.old))) }
+    ensures exact { IsTrue F.tells → (answer : Answer) → IsDue (call_of words.now (F.contents files.old)) answer
         → IfOk result (λ plan. Says answer plan ⊎ TellsFault plan) }
-    ensures serves { IsTrue F.tells → (kinds : List TileKind) (a : TreeAutomaton) (k : ℕ) → Serves (record { words = map string_bytes words.now; contents = F.contents files.old }) kinds a k
+    ensures serves { IsTrue F.tells → (kinds : List TileKind) (a : TreeAutomaton) (k : ℕ) → Serves (call_of words.now (F.contents files.old)) kinds a k
         → IfOk result (λ plan. ServesOver kinds a k plan ⊎ TellsFault plan) }
     ensures no_form { HaveNoForm (map string_bytes words.now) → IfOk result (Says Answer.Usage) }
     ensures said { AreNotOfRun (map string_bytes words.now) → IfOk result SaysSome }
