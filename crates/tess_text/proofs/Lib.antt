@@ -9,3 +9,4 @@ pub mod Spaced
 pub mod GoodLines
 pub mod GoodEntries
 pub mod Canonical
+pub mod KindCount

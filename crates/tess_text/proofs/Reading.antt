@@ -30,7 +30,7 @@ begun-push (x ∷ before) line = ap (λ (b : Bool). is_nonempty x || b) (begun-p
 entries_push : (before : List (List (List ℕ))) (line : List (List ℕ)) (o : Option Entry) → entry line ≡ o → entries (before ++ line ∷ []) ≡ entries before ++ cons_option o []
 entries_push before line o is = filter_map-append entry before (line ∷ []) ∙ ap (λ (x : Option Entry). filter_map entry before ++ cons_option x []) is
 
-entries_none : (before : List (List (List ℕ))) (line : List (List ℕ)) → entry line ≡ None → entries (before ++ line ∷ []) ≡ entries before
+pub entries_none : (before : List (List (List ℕ))) (line : List (List ℕ)) → entry line ≡ None → entries (before ++ line ∷ []) ≡ entries before
 entries_none before line none = entries_push before line None none ∙ append-nil (entries before)
 
 pub entries_some : (before : List (List (List ℕ))) (line : List (List ℕ)) (e : Entry) → entry line ≡ Some e → entries (before ++ line ∷ []) ≡ entries before ++ e ∷ []

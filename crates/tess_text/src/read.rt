@@ -1,5 +1,5 @@
 // Reading the text of a tessellation, line by line.
-ghost use Rattle.std.specs.Prelude.{◌≡◌, ◌<◌, ◌-◌, ◌^◌, ◌↔◌, ◌++◌, ◌∷◌, [], ℕ, List, length, IsTrue, IfOk, IfErr, MatchBool, MatchOption, MatchResult, ◌⊎◌};
+ghost use Rattle.std.specs.Prelude.{◌≡◌, ◌≢◌, ◌<◌, ◌-◌, ◌^◌, ◌↔◌, ◌++◌, ◌∷◌, [], ℕ, List, length, IsTrue, IfOk, IfErr, MatchBool, MatchOption, MatchResult, ◌⊎◌};
 ghost use Rattle.tile_model.specs.Tessellations.{TileKind};
 ghost use Rattle.tile_model.specs.Validity.{IsValid};
 ghost use Rattle.tile_kinds.specs.declared.fault.KindFault.{KindFault};
@@ -100,6 +100,10 @@ pub fn read_tess(alloc: Global, bytes: &[u8]) -> Result<Tessellation, TessFault>
     ensures every_spelling { (kinds : List TileKind) → IsSpelling bytes.now kinds → IsValid kinds → MatchResult result (λ t. t ≡ kinds) (λ e. e ≡ TessFault.Memory) }
     ensures every_bad_line { (n : ℕ) → IsFirstBadLine bytes.now n → MatchResult result (λ _. ⊥) (λ e. (e ≡ TessFault.Line n) ⊎ (e ≡ TessFault.Memory)) }
     ensures every_refusal { (fault : KindFault) → IsRefused bytes.now fault → MatchResult result (λ _. ⊥) (λ e. (e ≡ TessFault.Kinds fault) ⊎ (e ≡ TessFault.Memory)) }
+
+    // No text leads to the fault of the number of kinds.
+    ensures no_count { ¬ (IsRefused bytes.now KindFault.Count) }
+    ensures never_count { IfErr result (λ e. e ≢ TessFault.Kinds KindFault.Count) }
 {
     match Tessellation::make(read_kinds(alloc, bytes)?) {
         Ok(t) => Ok(t),
