@@ -1,13 +1,12 @@
 //! The text of a name: `-` for the root, else its sides joined by `.`.
 ghost use Rattle.std.specs.Prelude.{◌≡◌, ◌≢◌, ℕ, ◌+◌, ◌<◌, ◌≤◌, List, ◌∷◌, ◌++◌, length, codes, decimal, Err, IfSome, IfNone, IfOk, OnOk, OnErr, IsSomeAnd, IsErrOf, MatchResult, ◌⊎◌, vec_len, vec_capacity};
+ghost use Rattle.tree_model.specs.Limits.{deepest};
 ghost use Rattle.cell_names.specs.Text.{name_text, IsSpelling, NoDigit};
 
 use crate::Name;
 use std::alloc::{AllocError, Global};
 use thiserror::Error;
-
-/// The most sides that a name may have where it is read.
-pub const LONGEST: usize = 4_000;
+use tree_model::DEEPEST;
 
 /// Why bytes are not read as a name.
 #[derive(Clone, Copy, Debug, PartialEq, Eq, Error)]
@@ -87,8 +86,8 @@ fn put_side(out: &mut Vec<u8>, side: u8)
 pub fn read_name(alloc: Global, bytes: &[u8]) -> Result<Name, NameFault>
     // What is read has this text, and what has this text is read.
     ensures spelt { IfOk result (λ name. IsSpelling bytes.now name) }
-    ensures short { IfOk result (λ name. length name ≤ LONGEST) }
-    ensures complete { (name : List ℕ) → IsSpelling bytes.now name → length name ≤ LONGEST
+    ensures short { IfOk result (λ name. length name ≤ deepest) }
+    ensures complete { (name : List ℕ) → IsSpelling bytes.now name → length name ≤ deepest
         → MatchResult result (λ read. read ≡ name) (λ fault. fault ≡ NameFault.Memory) }
 
     // Text and Deep come for these reasons alone, and come then unless memory runs out.
@@ -96,8 +95,8 @@ pub fn read_name(alloc: Global, bytes: &[u8]) -> Result<Name, NameFault>
     ensures unspelt { ((name : List ℕ) → ¬ (IsSpelling bytes.now name))
         → IsErrOf result NameFault.Text ⊎ IsErrOf result NameFault.Memory }
     ensures deep { IsErrOf result NameFault.Deep
-        → (name : List ℕ) × IsSpelling bytes.now name × (LONGEST < length name) }
-    ensures long { (name : List ℕ) → IsSpelling bytes.now name → LONGEST < length name
+        → (name : List ℕ) × IsSpelling bytes.now name × (deepest < length name) }
+    ensures long { (name : List ℕ) → IsSpelling bytes.now name → deepest < length name
         → IsErrOf result NameFault.Deep ⊎ IsErrOf result NameFault.Memory }
 
     // No bytes spell two names.
@@ -107,7 +106,7 @@ pub fn read_name(alloc: Global, bytes: &[u8]) -> Result<Name, NameFault>
         return Ok(Name::root(alloc));
     }
     let name = read_sides(alloc, bytes)?;
-    if name.len() > LONGEST {
+    if name.len() > DEEPEST as usize {
         return Err(NameFault::Deep);
     }
     Ok(name)
