@@ -1,5 +1,6 @@
 //! Three tilings for tests, as the texts of their files and as rules.
 #![tactic(auto)]
+
 ghost use Rattle.std.specs.Prelude.{◌≡◌, ◌<◌, ◌-◌, ◌^◌, length, IfSome};
 ghost use Rattle.structure_check.specs.Rules.{AreSound};
 
@@ -9,7 +10,6 @@ use rules_file::read_rules;
 use std::alloc::Global;
 use structure_check::{Rules, check};
 use tess_text::read_tess;
-
 pub use texts::{
     HEPTAGONS_AND_HEXAGONS_RULES, HEPTAGONS_AND_HEXAGONS_TESS, HEPTAGONS_RULES, HEPTAGONS_TESS,
     PENTAGONS_RULES, PENTAGONS_TESS,

@@ -1,5 +1,6 @@
 //! Numbers of one to nine digits, leading zeros allowed: read in the same way wherever a text has one.
 #![tactic(auto)]
+
 ghost use Rattle.std.specs.Prelude.{◌≡◌, ◌↔◌, ℕ, List, Some, IfSome, IfNone};
 ghost use Rattle.short_numbers.specs.Numbers.{IsNumber, number};
 

@@ -5,9 +5,9 @@ ghost use Rattle.tile_model.specs.Validity.{HasCount, HasSides, HasRepeat, HasPa
 ghost use Rattle.tile_model.specs.Faults.{AllKinds, AllTypes, IsFault, IsFirstKind, IsFirstType, IsSized};
 ghost use Rattle.tile_kinds.specs.Checks.{IsReady, Passes};
 
-use tile_model::KindFault;
 use crate::kinds::{DartType, Kind};
 use crate::moves::{cross_of, has_type, left_of, valence_of};
+use tile_model::KindFault;
 
 /// A check of each type.
 #[derive(Clone, Copy, Debug, PartialEq, Eq)]

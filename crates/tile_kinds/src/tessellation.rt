@@ -4,11 +4,11 @@ ghost use Rattle.tile_model.specs.Tessellations.{IsType, kind_at, left, right, c
 ghost use Rattle.tile_model.specs.Validity.{IsValid};
 
 use crate::checks::fault;
-use tile_model::KindFault;
 use crate::kinds::{DartType, Kind};
 use crate::moves::{cross_of, has_type, left_of, right_of, valence_of};
 use std::alloc::{AllocError, Global};
 use std::marker::Model;
+use tile_model::KindFault;
 
 /// A tessellation: a list of kinds that has passed all checks.
 #[derive(Debug, Drop)]

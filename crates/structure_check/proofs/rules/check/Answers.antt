@@ -1,1 +1,0 @@
-use Rattle.structure_check.proofs.rules.check.Goals as goal
