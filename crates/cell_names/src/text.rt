@@ -1,7 +1,7 @@
 //! The text of a name: `-` for the root, else its sides joined by `.`.
 ghost use Rattle.std.specs.Prelude.{◌≡◌, ◌≢◌, ℕ, ◌+◌, ◌<◌, ◌≤◌, List, ◌∷◌, ◌++◌, length, codes, decimal, Err, IfSome, IfNone, IfOk, OnOk, OnErr, IsSomeAnd, IsErrOf, MatchResult, ◌⊎◌, vec_len, vec_capacity};
 ghost use Rattle.tree_model.specs.Limits.{deepest};
-ghost use Rattle.cell_names.specs.Text.{name_text, IsSpelling, NoDigit};
+ghost use Rattle.cell_names.specs.Text.{name_text, IsSpelling, SpellsNoOther, NoDigit};
 
 use crate::Name;
 use std::alloc::{AllocError, Global};
@@ -33,18 +33,23 @@ impl From<AllocError> for NameFault {
     }
 }
 
-/// The text of a name of any length: `-` for the root, else its sides joined by `.`.
+/// The text of a name of any length: `-` for the root, else its sides joined by `.`. It spells this name and no other.
 pub fn print_name(alloc: Global, name: &Name) -> Result<Vec<u8>, AllocError>
-    ensures { IfOk result (λ text. text.items ≡ name_text name.now) }
+    ensures text { IfOk result (λ text. text.items ≡ name_text name.now) }
+    ensures spelling { IfOk result (λ text. IsSpelling text.items name.now) }
+    ensures of_no_other { IfOk result (λ text. SpellsNoOther text.items name.now) }
 {
     let mut text = Vec::new(alloc);
     write_name(&mut text, name)?;
     Ok(text)
 }
 
-/// Appends the text of a name of any length. Out of memory the bytes are as they were.
+/// Appends the text of a name of any length, which spells this name and no other. Out of memory the bytes are as they were.
+#[tactic(auto, using(crate::proofs::Reading::spells_no_other))]
 pub fn write_name(out: &mut Vec<u8>, name: &Name) -> Result<(), AllocError>
     ensures written { OnOk result (out.new.items ≡ out.old.items ++ name_text name.now) }
+    ensures spelling { IsSpelling (name_text name.now) name.now }
+    ensures of_no_other { SpellsNoOther (name_text name.now) name.now }
     ensures unchanged { OnErr result (out.new.items ≡ out.old.items) }
 {
     let Some((first, others)) = name.sides().split_first() else {
