@@ -1,0 +1,4 @@
+mod Splits
+mod Cancelling
+mod Arriving
+mod Leaving
