@@ -1,4 +1,5 @@
-//! The tables of a tree automaton: its states, its corner types and its roots, as a file gives them and before any condition is checked.
+//! The tables of a tree automaton: its states, its corner types and its roots, as a file gives them
+//! and before any condition is checked.
 #![tactic(auto)]
 
 mod automaton;

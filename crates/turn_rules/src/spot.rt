@@ -11,7 +11,8 @@ use cell_names::Name;
 use smallvec::SmallVec;
 use std::alloc::{AllocError, Global};
 use std::marker::Model;
-use structure_check::Rules;
+use structure_check::{Rules, side_type};
+use tile_kinds::DartType;
 use tree_model::Rule;
 
 /// A tile of the tree by its name, the states on the path from the root to it, and the number of the side that is faced. Calls that take
@@ -164,6 +165,17 @@ impl Spot {
         ensures known { result < length r.now.kinds }
     {
         r.automaton().state(self.state()).kind
+    }
+
+    /// The type of the faced side.
+    pub fn facing(&self, r: &Rules) -> DartType
+        requires { IsSpot r.now self.now }
+        ensures value { result ≡ type_of_side r.now.kinds r.now.automaton (root_kind r.now self.now)
+            (position self.now) }
+        ensures is_type { IsType r.now.kinds result }
+        ensures sound { AreSound r.now }
+    {
+        side_type(r.tessellation(), r.automaton(), self.state(), self.spin)
     }
 
     /// An empty list, which takes the memory that it comes to need from where the spot has its own.
