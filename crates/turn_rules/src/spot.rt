@@ -1,9 +1,10 @@
 //! `Spot`: a tile of the tree by its name, with the states on the way to it, and one of its sides.
 ghost use Rattle.std.specs.Prelude.{◌≡◌, ◌≢◌, ◌<◌, ◌≤◌, suc, All, [], length, slice_index};
 ghost use Rattle.std.specs.Prelude.{IfOk, OnOk, OnErr};
-ghost use Rattle.structure_check.specs.Rules.{TreeRules};
+ghost use Rattle.structure_check.specs.Rules.{AreSound, TreeRules};
+ghost use Rattle.tile_model.specs.Tessellations.{IsType};
 ghost use Rattle.tree_model.specs.Automata.{state_at};
-ghost use Rattle.tree_model.specs.Positions.{root};
+ghost use Rattle.tree_model.specs.Positions.{type_of_side, root};
 ghost use Rattle.turn_rules.specs.Spots.{position, root_kind, tile_state, tile_sides, facing, rejoined};
 ghost use Rattle.turn_rules.specs.Spots.{IsSpot, IsAt, FacesChild, IsAtChild, IsAtParent};
 
@@ -168,7 +169,7 @@ impl Spot {
     }
 
     /// The type of the faced side.
-    pub fn facing(&self, r: &Rules) -> DartType
+    pub fn faced_type(&self, r: &Rules) -> DartType
         requires { IsSpot r.now self.now }
         ensures value { result ≡ type_of_side r.now.kinds r.now.automaton (root_kind r.now self.now)
             (position self.now) }
