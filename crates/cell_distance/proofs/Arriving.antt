@@ -1,6 +1,6 @@
 -- Walks of a spot that stands at the root and has turned to a side.
 use Rattle.std.specs.Prelude.{Result, Ok, Err, IsErrOf, IsErrAnd}
-use Rattle.std.proofs.Common.{◌⊎◌, inl, inr, Unit, ◌≡◌, ℕ, ◌<◌, ◌≤◌, List, [], ◌∷◌, ◌++◌, length, replicate, refl, sym, ap, ap₂, ◌∙◌, subst, append_assoc, append-nil, arith, ⊎_elim}
+use Rattle.std.proofs.Common.{◌⊎◌, inl, inr, ◌≡◌, ℕ, ◌<◌, ◌≤◌, List, [], ◌∷◌, ◌++◌, length, replicate, refl, sym, ap, ap₂, ◌∙◌, subst, append_assoc, append-nil, arith, ⊎_elim}
 use Rattle.std.proofs.lemmas.Bool.{cases_lt}
 use Rattle.tile_model.specs.declared.Letter.{Letter}
 use Rattle.tile_model.specs.declared.Letter.TheVariants.{L, X}
@@ -15,7 +15,7 @@ use Rattle.structure_check.specs.Rules.{TreeRules, AreSound}
 use Rattle.turn_rules.specs.Spots.{TreeSpot, IsAt, position, root_kind, tile_sides}
 use Rattle.step_engine.specs.declared.fault.StepFault.{StepFault}
 use Rattle.step_engine.specs.declared.fault.StepFault.TheVariants.{Deep, Memory}
-use Rattle.step_engine.specs.Crossings.{LeadsTo, WalksDeep}
+use Rattle.step_engine.specs.Crossings.{WalkLeadsTo, WalksDeep}
 use Rattle.cell_distance.specs.declared.fault.DistFault.{DistFault}
 use Rattle.cell_distance.specs.declared.fault.DistFault.TheVariants.{Deep as TooFar, Memory as NoMemory}
 use Rattle.cell_distance.specs.Passing.{LeadsFar, farthest}
@@ -57,7 +57,7 @@ module _ (r : TreeRules) (sound : AreSound r) (k : ℕ) (known : k < length r.ki
     turns_lead = subst (λ p. Leads r.kinds r.automaton k root (replicate side L) p) (sym at.stands) (lefts_from_first r.kinds r.automaton k [] side (omega (arith, within, root_sides)))
 
     -- what a walk of the spot leads to, the turns and then the walk lead to from side 0
-    pub way_leads : (way : List Letter) (q : Position) → LeadsTo r s way q → Leads r.kinds r.automaton k root (replicate side L ++ way) q
+    pub way_leads : (way : List Letter) (q : Position) → WalkLeadsTo r s way q → Leads r.kinds r.automaton k root (replicate side L ++ way) q
     way_leads way q h =
         let there = subst (λ j. Leads r.kinds r.automaton j (position s) way q) at.tree h in
         leads_append r.kinds r.automaton k (replicate side L) way root (position s) q turns_lead there
@@ -92,7 +92,7 @@ module _ (r : TreeRules) (sound : AreSound r) (k : ℕ) (known : k < length r.ki
         walks_deep way h.prefix h.rest h.there h.split (subst (λ n. Leads r.kinds r.automaton k n h.prefix h.there) same second) h.deep
 
     -- where no crossing on the way is too deep, its end is not
-    pub end_near : (way : List Letter) (q : Position) → LeadsTo r s way q → (WalksDeep r s way farthest → ⊥) → length q.name ≤ farthest
+    pub end_near : (way : List Letter) (q : Position) → WalkLeadsTo r s way q → (WalksDeep r s way farthest → ⊥) → length q.name ≤ farthest
     end_near way q h none =
         let there = subst (λ j. Leads r.kinds r.automaton j (position s) way q) at.tree h in
         ⊎_elim (λ d. absurd (none (walks_deep way way [] q (sym (append-nil way)) there d))) (λ n. n) (cases_lt farthest (length q.name))

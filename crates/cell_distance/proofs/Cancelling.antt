@@ -10,7 +10,7 @@ use Rattle.tile_model.specs.Relation.{AreRelated, AreAtSameTile, IsDistance}
 use Rattle.tile_model.proofs.Relations.{related_on, related_back, related_before, related_behind, related_equal, related_same}
 use Rattle.tile_model.proofs.Inverses.{inverse_append, inverse_inverse, crossings_append, crossings_inverse, back_there_on, there_back_on}
 use Rattle.tile_model.proofs.SameTile.{related_same_tile}
-use Rattle.tile_model.proofs.Distances.{one_distance, distance_to}
+use Rattle.tile_model.proofs.Distances.{one_distance, distance_from, distance_to}
 use Rattle.tree_model.specs.Automata.{TreeAutomaton}
 use Rattle.tree_model.specs.Conditions.{IsAccepted}
 use Rattle.tree_model.specs.Positions.{Position, root, Leads}
@@ -147,5 +147,24 @@ module _ (kinds : List TileKind) (a : TreeAutomaton) (k : ℕ) (valid : IsValid 
           let same = related_on kinds (related_before kinds u (related_equal kinds e)) (there_back_on kinds (k, 0) u m) in
           record { prefix = m; rest = h.rest; split = f; distance = h.distance; apart = same_distance u (u ++ h.prefix) m h.distance same h.apart; far = h.far }
 
-  pub far_from_home : (c u w : List Letter) → crossings (c ++ u) ≤ farthest → PassesFar kinds (k, 0) (c ++ u) [] (c ++ w) → LeadsFar kinds a (kind_at_end (c ++ u)) (side_at_end (c ++ u)) (inverse u ++ w)
-  far_from_home c u w short h = onward_back c u w h.prefix h.rest h.distance short h.split h.apart h.far
+  -- and what is far on w is far on the way there
+  pub far_inwards : (u w : List Letter) → PassesFar kinds (k, 0) u [] w → PassesFar kinds (k, 0) u u (inverse u ++ w)
+  far_inwards u w h = record {
+    prefix = inverse u ++ h.prefix;
+    rest = h.rest;
+    split = ap (λ l. inverse u ++ l) h.split ∙ sym (append_assoc (inverse u) h.prefix h.rest);
+    distance = h.distance;
+    apart = same_distance u h.prefix (u ++ (inverse u ++ h.prefix)) h.distance (related_back kinds (there_back_on kinds (k, 0) u h.prefix)) h.apart;
+    far = h.far;
+  }
+
+  -- the same from any walk to the same tile
+  pub far_from : (u v w : List Letter) → AreRelated kinds (k, 0) u v → PassesFar kinds (k, 0) u [] w → PassesFar kinds (k, 0) v [] w
+  far_from u v w r h = record {
+    prefix = h.prefix;
+    rest = h.rest;
+    split = h.split;
+    distance = h.distance;
+    apart = distance_from kinds valid (k, 0) start u v h.prefix h.distance (related_same_tile kinds valid (k, 0) start r) h.apart;
+    far = h.far;
+  }

@@ -22,7 +22,7 @@ use Rattle.cell_distance.specs.Passing.{PassesFar, LeadsFar, LeavesOut, ArrivesF
 use Rattle.cell_distance.proofs.Cancelling.{place_of_rest, far_there, far_here, far_whole}
 
 -- the letters from the n-th on
-pub from_on : (n : ℕ) (l : List Letter) → take (length l - n) (drop n l) ≡ drop n l
+pub from_on : {A : Type 0} (n : ℕ) (l : List A) → take (length l - n) (drop n l) ≡ drop n l
 from_on n l = let e = length-drop n l in take_all (length l - n) (drop n l) (omega (arith, e))
 
 -- what is left of two walks behind their common beginning, joined by the way back along the first

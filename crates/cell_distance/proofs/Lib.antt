@@ -2,3 +2,4 @@ mod Splits
 mod Cancelling
 mod Arriving
 mod Leaving
+mod Spotted

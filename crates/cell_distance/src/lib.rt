@@ -5,6 +5,8 @@ mod arrival;
 mod between;
 mod fault;
 mod spots;
+#[cfg(test)]
+mod tests;
 
 pub use between::{distance, shortest};
 pub use fault::DistFault;

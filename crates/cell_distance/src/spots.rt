@@ -6,7 +6,7 @@ ghost use Rattle.tile_model.specs.Walks.{inverse, type_of};
 ghost use Rattle.tile_model.specs.Relation.{IsDistance};
 ghost use Rattle.tree_model.specs.Names.{word};
 ghost use Rattle.tree_model.specs.Places.{position_word};
-ghost use Rattle.tree_model.specs.Positions.{Position, type_of_side};
+ghost use Rattle.tree_model.specs.Positions.{Position};
 ghost use Rattle.tree_laws.specs.Laws.{IsPlaceFrom, IsShortestWay, way_to};
 ghost use Rattle.structure_check.specs.Rules.{AreSound};
 ghost use Rattle.turn_rules.specs.Spots.{IsSpot, position, root_kind};
@@ -92,25 +92,10 @@ fn go_between_spots(
             (position_word (position s.now)) [] (word t.now.name)
         → IsErrOf result DistFault.Deep ⊎ IsErrOf result DistFault.Memory }
 {
-    let from = faced_type(r, s);
+    let from = s.faced_type(r);
     let way = way_between_spots(alloc, s, t)?;
     let there = arrive(alloc, r, from.kind, from.residue, &way)?;
     Ok((from, there))
-}
-
-/// The type of the side that a spot faces.
-fn faced_type(r: &Rules, s: &Spot) -> DartType
-    requires { IsSpot r.now s.now }
-    ensures sound { AreSound r.now }
-    ensures value { result
-        ≡ type_of_side r.now.kinds r.now.automaton (root_kind r.now s.now) (position s.now) }
-{
-    let state = r.automaton().state(s.state());
-    let kind = r.tessellation().kind(state.kind);
-    DartType {
-        kind: state.kind,
-        residue: (state.off + s.spin()) % kind.repeat,
-    }
 }
 
 /// The way from the end of the word of `s` to the tile of `t`, without what both words share: the
