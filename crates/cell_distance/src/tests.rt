@@ -22,7 +22,7 @@ const PENTAGONS: [Row; 6] = [
     ("-", "-", 0, "-"),
     ("LLL", "R", 0, "-"),
     ("LX", "X", 2, "XLLLLX"),
-    ("X", "LX", 2, "XLX"),
+    ("X", "LX", 2, "LLLLXLLLLX"),
     ("XLLXLLX", "XLLX", 1, "X"),
     ("LXLXLX", "X", 0, "-"),
 ];
