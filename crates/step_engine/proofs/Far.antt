@@ -12,7 +12,7 @@ use Rattle.tree_laws.proofs.Walking.{leads_append, leads_on}
 use Rattle.tree_laws.proofs.Words.{word_leads}
 use Rattle.tree_laws.proofs.Places.{place_leads, leads_place}
 use Rattle.tree_laws.proofs.Levels.{level}
-use Rattle.turn_rules.specs.Spots.{TreeSpot, IsSpot, position, root_kind}
+use Rattle.spot_laws.specs.Spots.{TreeSpot, IsSpot, position, root_kind}
 use Rattle.step_engine.specs.Crossings.{StandsAfter, CrossesDeep, CrossesFar, WalksDeep, WalksFar}
 use Rattle.step_engine.specs.Crossings.{DeepIsFar, DeepWalksAreFar}
 

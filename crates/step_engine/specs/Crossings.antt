@@ -7,7 +7,7 @@ use Rattle.tile_model.specs.Relation.{IsDistance}
 use Rattle.structure_check.specs.Rules.{TreeRules, AreSound}
 use Rattle.tree_model.specs.Positions.{Position, LiesAcross, Leads}
 use Rattle.tree_model.specs.Places.{IsPlace}
-use Rattle.turn_rules.specs.Spots.{TreeSpot, IsSpot, position, root_kind}
+use Rattle.spot_laws.specs.Spots.{TreeSpot, IsSpot, position, root_kind}
 
 -- Position q lies across the faced side.
 abbrev pub IsAcross : TreeRules → TreeSpot → Position → Type 0

@@ -4,7 +4,7 @@ use Rattle.tile_model.specs.declared.Letter.{Letter}
 use Rattle.tile_model.specs.declared.Letter.TheVariants.{X}
 use Rattle.structure_check.specs.Rules.{TreeRules, AreSound}
 use Rattle.tree_model.specs.Positions.{Position, LiesAcross, Moves}
-use Rattle.turn_rules.specs.Spots.{TreeSpot, IsSpot, position, root_kind, tile_state, rejoined}
+use Rattle.spot_laws.specs.Spots.{TreeSpot, IsSpot, position, root_kind, tile_state, rejoined}
 use Rattle.tree_model.specs.Contours.{Opens}
 use Rattle.tree_laws.specs.Directions.{Goes, turned, mark_towards, most_open}
 use Rattle.step_engine.specs.Crossings.{IsDeepAcross}

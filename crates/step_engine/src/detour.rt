@@ -3,7 +3,7 @@ ghost use Rattle.std.specs.Prelude.{◌≡◌, ◌≢◌, ◌↔◌, ◌<◌, �
 ghost use Rattle.std.specs.Prelude.{[], ◌∷◌, ◌++◌, length, IfOk, OnOk, OnErr, IsErrOf, IsTrue, All};
 ghost use Rattle.structure_check.specs.Rules.{TreeRules};
 ghost use Rattle.tree_model.specs.Automata.{next, previous, side_count};
-ghost use Rattle.turn_rules.specs.Spots.{IsSpot, tile_state, faced_rule, position};
+ghost use Rattle.spot_laws.specs.Spots.{IsSpot, tile_state, faced_rule, position};
 ghost use Rattle.step_engine.specs.Detours.{spot_there, there, turned_there, most_open_there};
 ghost use Rattle.step_engine.specs.Detours.{IsShaped, IsDetour, IsAbove, HasReached, HasMoved};
 ghost use Rattle.step_engine.specs.Detours.{HasCrossed, OpensTowards, FacesDeep};

@@ -6,7 +6,7 @@ ghost use Rattle.tile_model.specs.declared.Letter.TheVariants.{L};
 ghost use Rattle.tree_model.specs.Automata.{next, previous};
 ghost use Rattle.tree_model.specs.Positions.{Position, root};
 ghost use Rattle.tree_model.specs.Places.{position_word};
-ghost use Rattle.turn_rules.specs.Spots.{IsSpot, IsAt, position, root_kind, tile_sides, facing};
+ghost use Rattle.spot_laws.specs.Spots.{IsSpot, IsAt, position, root_kind, tile_sides, facing};
 ghost use Rattle.step_engine.specs.Crossings.{IsAcross, WalkLeadsTo, StandsAfter};
 ghost use Rattle.step_engine.specs.Crossings.{CrossesDeep, WalksDeep};
 ghost use Rattle.step_engine.specs.Detours.{IsDetour, HasStepped, FacesDeep};

@@ -1,7 +1,7 @@
 //! The state of a spot's tile, as one of the rules.
 ghost use Rattle.std.specs.Prelude.{◌≡◌, ◌<◌, length};
 ghost use Rattle.structure_check.specs.Rules.{AreSound};
-ghost use Rattle.turn_rules.specs.Spots.{IsSpot, tile_state};
+ghost use Rattle.spot_laws.specs.Spots.{IsSpot, tile_state};
 
 use structure_check::Rules;
 use turn_rules::Spot;

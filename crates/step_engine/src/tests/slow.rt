@@ -1,7 +1,7 @@
 // The engine beside a slow program that follows the definition of what lies across: it finds the side that is matched with another by
 // recursion, and counts no brackets.
 ghost use Rattle.std.specs.Prelude.{OnOk};
-ghost use Rattle.turn_rules.specs.Spots.{IsSpot};
+ghost use Rattle.spot_laws.specs.Spots.{IsSpot};
 
 use super::builders::{heptagons, pentagons, start, truncated};
 use crate::walk;
