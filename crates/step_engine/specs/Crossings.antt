@@ -1,5 +1,5 @@
--- What lies across the faced side of a spot, where walks lead from it, of which walks it is the place,
--- and which crossings arrive too deep.
+-- What lies across the faced side of a spot, where walks lead from it, of which walks it is the
+-- place, and which crossings arrive too deep.
 use Rattle.std.specs.Prelude.{◌≡◌, ◌↔◌, ℕ, ◌<◌, List, [], ◌∷◌, ◌++◌, length}
 use Rattle.tile_model.specs.declared.Letter.{Letter}
 use Rattle.tile_model.specs.declared.Letter.TheVariants.{X}
@@ -34,7 +34,8 @@ abbrev pub CrossesDeep : TreeRules → TreeSpot → ℕ → Type 0
 CrossesDeep rules s most = IsDeepAcross rules (root_kind rules s) (position s) most
 
 -- Some crossing on the walk arrives at a name of more than `most` sides.
-pub record WalksDeep (rules : TreeRules) (s : TreeSpot) (walk : List Letter) (most : ℕ) : Type 0 where
+pub record WalksDeep (rules : TreeRules) (s : TreeSpot)
+    (walk : List Letter) (most : ℕ) : Type 0 where
   pub before : List Letter
   pub behind : List Letter
   pub split : walk ≡ before ++ X ∷ behind
@@ -50,7 +51,8 @@ pub record CrossesFar (rules : TreeRules) (s : TreeSpot) (most : ℕ) : Type 0 w
   pub apart : IsDistance rules.kinds (root_kind rules s, 0) [] (walk ++ X ∷ []) distance
   pub far : most < distance
 
--- The tile at which some crossing on the walk arrives lies more than `most` crossings from the root.
+-- The tile at which some crossing on the walk arrives lies more than `most` crossings from the
+-- root.
 pub record WalksFar (rules : TreeRules) (s : TreeSpot) (w : List Letter) (most : ℕ) : Type 0 where
   pub before : List Letter
   pub behind : List Letter

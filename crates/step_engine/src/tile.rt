@@ -17,7 +17,8 @@ pub(crate) fn tile(s: &Spot, r: &Rules) -> u32
     s.state()
 }
 
-/// The rules are accepted. A body that reads nothing of them does not know this of its argument, so those that need it call this one, which
+/// The rules are accepted.
+/// A body that reads nothing of them does not know this of its argument, so those that need it call this one, which
 /// does nothing else.
 pub(crate) fn accepted(r: &Rules)
     ensures { AreSound r.now }
