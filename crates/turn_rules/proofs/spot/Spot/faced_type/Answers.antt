@@ -1,7 +1,7 @@
 use Rattle.std.proofs.Common.{◌<◌, length, sym, ap, ◌∙◌, subst}
 use Rattle.tree_model.specs.Conditions.{HasTables}
-use Rattle.turn_rules.specs.Spots.{tile_state}
-use Rattle.turn_rules.proofs.Spots.{tile_known}
+use Rattle.spot_laws.specs.Spots.{tile_state}
+use Rattle.spot_laws.proofs.Spots.{tile_known}
 use Rattle.turn_rules.proofs.spot.Spot.faced_type.Goals as goal
 
 pub type_of-requires-clause-state : goal.type_of-requires-clause-state
