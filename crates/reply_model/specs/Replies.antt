@@ -13,19 +13,23 @@ use Rattle.reply_model.specs.declared.Reply.TheVariants.{At as AtPlace}
 use Rattle.reply_model.specs.Histories.{History, Exists, walk_of}
 use Rattle.reply_model.specs.Readings.{Reading}
 
-module _ (kinds : List TileKind) (k : ℕ) (reading : Reading) (history : History) where
-  -- the tile of the second walk is too far from that of the first
-  pub record AreFar (u w : List Letter) : Type 0 where
-    pub distance : ℕ
-    pub apart : reading.AreApart u w distance
-    pub far : deepest < distance
+-- The tile of the second walk is too far from that of the first.
+pub record AreFar (reading : Reading) (u w : List Letter) : Type 0 where
+  pub distance : ℕ
+  pub apart : reading.AreApart u w distance
+  pub far : deepest < distance
 
-  -- some prefix of the walk, gone behind the walk of w, comes too far from the root
-  pub record GoesDeep (w : ℕ) (walk : List Letter) : Type 0 where
-    pub prefix : List Letter
-    pub rest : List Letter
-    pub split : walk ≡ prefix ++ rest
-    pub deep : AreFar [] (walk_of history w ++ prefix)
+-- The walk, gone behind another one, passes a tile that is too far from that of the walk `home`.
+pub record PassesFar (reading : Reading) (home before walk : List Letter) : Type 0 where
+  pub prefix : List Letter
+  pub rest : List Letter
+  pub split : walk ≡ prefix ++ rest
+  pub far : AreFar reading home (before ++ prefix)
+
+module _ (kinds : List TileKind) (k : ℕ) (reading : Reading) (history : History) where
+  -- the walk, gone behind that of w, passes a tile that is too far from the root
+  abbrev pub GoesDeep : ℕ → List Letter → Type 0
+  GoesDeep w u = PassesFar reading [] (walk_of history w) u
 
   -- where w stands: the place of its walk, and the kind of the type that its walk leads to
   abbrev pub at_place_of : ℕ → Position → Reply
