@@ -5,11 +5,11 @@ use Rattle.structure_check.specs.Rules.{TreeRules, AreSound}
 use Rattle.tree_model.specs.Automata.{rank}
 use Rattle.tree_model.specs.Contours.{Mark, Tree, Opens, mirrored}
 use Rattle.tree_model.specs.Positions.{Position, LiesAcross, in_tree, hop, mark}
-use Rattle.turn_rules.specs.Machine.{room}
-use Rattle.turn_rules.specs.Directions.{turned, mark_towards, inner_corner, bound, Runs, left_over}
+use Rattle.tree_laws.specs.Machine.{most_moves}
+use Rattle.tree_laws.specs.Directions.{turned, mark_towards, inner_corner, bound, Runs, left_over}
 use Rattle.turn_rules.specs.Spots.{TreeSpot, root_kind}
-use Rattle.turn_rules.proofs.Runs.{goes_on, ends, tells, counter_most}
-use Rattle.turn_rules.proofs.Contour.{arrives}
+use Rattle.tree_laws.proofs.Runs.{goes_on, ends, tells, counter_most}
+use Rattle.tree_laws.proofs.Contour.{arrives}
 use Rattle.step_engine.specs.declared.detour.Detour.{Detour}
 use Rattle.step_engine.specs.Detours.{IsDetour, ComesTo, HasMoved, HasCrossed, there}
 use Rattle.step_engine.proofs.Detours.{at_home, known_home}
@@ -23,18 +23,18 @@ pub record Going (r : TreeRules) (s : TreeSpot) (leftwards : Bool) (d0 d : Detou
   pub end : Position
   pub across : LiesAcross r.kinds r.automaton (root_kind r s) (there s d0) end
   pub left : ℕ
-  pub few : left ≤ room (bound r.kinds r.automaton (root_kind r s) leftwards (there s d0))
+  pub few : left ≤ most_moves (bound r.kinds r.automaton (root_kind r s) leftwards (there s d0))
   pub runs : Runs r.kinds r.automaton (root_kind r s) leftwards (bound r.kinds r.automaton (root_kind r s) leftwards (there s d0)) left (there s d) c end
   pub some : 1 ≤ c
 
 -- the moves that are left
 pub rest : TreeRules → TreeSpot → Bool → Detour → Detour → ℕ → ℕ
-rest r s leftwards d0 d c = left_over r.kinds r.automaton (root_kind r s) leftwards (suc (room (bound r.kinds r.automaton (root_kind r s) leftwards (there s d0)))) (there s d) c
+rest r s leftwards d0 d c = left_over r.kinds r.automaton (root_kind r s) leftwards (suc (most_moves (bound r.kinds r.automaton (root_kind r s) leftwards (there s d0)))) (there s d) c
 
 rest_is : (r : TreeRules) (s : TreeSpot) (leftwards : Bool) (d0 d : Detour) (c : ℕ) (g : Going r s leftwards d0 d c) → rest r s leftwards d0 d c ≡ g.left
 unfolding rest
 rest_is r s leftwards d0 d c g =
-    tells Position (turned r.kinds r.automaton (root_kind r s) leftwards) (hop r.kinds r.automaton (root_kind r s)) (mark_towards r.kinds r.automaton (root_kind r s) leftwards) g.runs (suc (room (bound r.kinds r.automaton (root_kind r s) leftwards (there s d0)))) (omega (arith, g.few))
+    tells Position (turned r.kinds r.automaton (root_kind r s) leftwards) (hop r.kinds r.automaton (root_kind r s)) (mark_towards r.kinds r.automaton (root_kind r s) leftwards) g.runs (suc (most_moves (bound r.kinds r.automaton (root_kind r s) leftwards (there s d0)))) (omega (arith, g.few))
 
 module _ (r : TreeRules) (sound : AreSound r) (s : TreeSpot) where
   abbrev Home : ℕ

@@ -9,9 +9,9 @@ use Rattle.tree_model.specs.Positions.{Position, LiesAcross, Leads, Moves, root}
 use Rattle.tree_model.specs.Places.{IsPlace}
 use Rattle.tree_model.proofs.Names.{LastView, empty, last, last_view}
 use Rattle.turn_rules.specs.Spots.{TreeSpot, IsSpot, position, root_kind}
-use Rattle.turn_rules.proofs.Closure.{across_same}
-use Rattle.turn_rules.proofs.Walking.{leads_append, leads_split, leads_same}
-use Rattle.turn_rules.proofs.Places.{place_leads, leads_place}
+use Rattle.tree_laws.proofs.Closure.{across_same}
+use Rattle.tree_laws.proofs.Walking.{leads_append, leads_split, leads_same}
+use Rattle.tree_laws.proofs.Places.{place_leads, leads_place}
 use Rattle.step_engine.specs.declared.detour.Detour.{Detour}
 use Rattle.step_engine.specs.Crossings.{IsAcross, LeadsTo, StandsAfter, IsDeepAcross, CrossesDeep, WalksDeep}
 use Rattle.step_engine.specs.Detours.{IsDetour, ComesTo, HasCrossed, HasStepped, spot_there, there}

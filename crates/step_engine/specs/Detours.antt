@@ -5,7 +5,7 @@ use Rattle.tile_model.specs.declared.Letter.TheVariants.{X}
 use Rattle.structure_check.specs.Rules.{TreeRules}
 use Rattle.tree_model.specs.Positions.{Position, LiesAcross, Moves}
 use Rattle.turn_rules.specs.Spots.{TreeSpot, IsSpot, position, root_kind, tile_state, rejoined}
-use Rattle.turn_rules.specs.Directions.{Goes}
+use Rattle.tree_laws.specs.Directions.{Goes}
 use Rattle.step_engine.specs.declared.detour.Detour.{Detour}
 
 -- the spot that a detour from s has come to

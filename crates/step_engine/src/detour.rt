@@ -4,7 +4,7 @@ ghost use Rattle.structure_check.specs.Rules.{TreeRules};
 ghost use Rattle.tree_model.specs.Automata.{next, previous, rank, side_count};
 ghost use Rattle.tree_model.specs.Contours.{Opens};
 ghost use Rattle.turn_rules.specs.Spots.{IsSpot, root_kind, tile_state, faced_rule, position};
-ghost use Rattle.turn_rules.specs.Directions.{turned, mark_towards, inner_corner, bound};
+ghost use Rattle.tree_laws.specs.Directions.{turned, mark_towards, inner_corner, bound};
 ghost use Rattle.step_engine.specs.Detours.{IsShaped, IsDetour, IsAbove, ComesTo, HasMoved, HasCrossed, HasStepped, spot_there, there};
 ghost use Rattle.step_engine.specs.Crossings.{IsDeepAcross};
 

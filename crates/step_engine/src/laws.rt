@@ -2,7 +2,7 @@
 //! kind, at any distance.
 
 ghost use Rattle.std.specs.Prelude.{◌<◌, length};
-ghost use Rattle.turn_rules.specs.Laws.{WalksHaveOnePlace, PlacesTellRelated, NamesTellTiles};
+ghost use Rattle.tree_laws.specs.Laws.{WalksHaveOnePlace, PlacesTellRelated, NamesTellTiles};
 
 use structure_check::Rules;
 

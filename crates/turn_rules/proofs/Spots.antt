@@ -9,7 +9,7 @@ use Rattle.tree_model.specs.Positions.{Position, IsPosition, root, parent, last_
 use Rattle.tree_model.proofs.Names.{parent_push, last_side_push, name_last}
 use Rattle.tree_model.proofs.Positions.{make_position, same_position, few_sides, state_known, IsDown, down_position}
 use Rattle.turn_rules.specs.Spots.{TreeSpot, IsSpot, IsAt, position, states_along, root_kind, tile_state, faced_rule, rejoined}
-use Rattle.turn_rules.proofs.Words.{root_position}
+use Rattle.tree_laws.proofs.Words.{root_position}
 
 pub all_one : (i : ℕ) → i < 64 → All (λ j. j < 64) (i ∷ [])
 all_one i h = λ k d l. let e : k ≡ 0 = omega (arith, l) in subst (λ n. slice_index_or (i ∷ []) n d < 64) (sym e) h

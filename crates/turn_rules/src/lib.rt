@@ -1,5 +1,4 @@
-//! Spots in the tree of accepted rules and their steps to a child and to the parent, what lies across a side, and the walk along the
-//! contour that finds it.
+//! Spots in the tree of accepted rules and their steps to a child and to the parent, the sides of a tile, and laws of accepted rules.
 #![tactic(auto)]
 
 pub mod laws;

@@ -1,4 +1,4 @@
-use Rattle.turn_rules.proofs.Together.{walks_one_place, places_tell, names_tell}
+use Rattle.tree_laws.proofs.Together.{walks_one_place, places_tell, names_tell}
 use Rattle.step_engine.proofs.laws.one_place.Goals as goal
 
 pub returns-clause-one : goal.returns-clause-one

@@ -1,4 +1,4 @@
-use Rattle.turn_rules.proofs.Together.{across_one, across_is_back, across_partner}
+use Rattle.tree_laws.proofs.Together.{across_one, across_is_back, across_partner}
 use Rattle.turn_rules.proofs.laws.across_back.Goals as goal
 
 pub returns-clause-one : goal.returns-clause-one

@@ -1,4 +1,4 @@
-use Rattle.turn_rules.proofs.Together.{corners_close}
+use Rattle.tree_laws.proofs.Together.{corners_close}
 use Rattle.turn_rules.proofs.laws.round_corner.Goals as goal
 
 pub returns : goal.returns
