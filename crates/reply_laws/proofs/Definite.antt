@@ -95,11 +95,11 @@ both_or_not (inl x) (inl y) = inl (x, y)
 both_or_not (inl x) (inr n) = inr (inr n)
 both_or_not (inr n) s = inr (inl n)
 
-first_letter : Letter → List Letter → Letter
+abbrev first_letter : Letter → List Letter → Letter
 first_letter d [] = d
 first_letter d (x ∷ u) = x
 
-later_letters : List Letter → List Letter
+abbrev later_letters : List Letter → List Letter
 later_letters [] = []
 later_letters (x ∷ u) = u
 
@@ -124,9 +124,6 @@ module _ (kinds : List TileKind) (k : ℕ) (known : k < length kinds) (r : Readi
           empty (x ∷ prefix) rest e f = absurd (cc)
   passes_or_not home before (x ∷ walk) = now (far_or_not home (before ++ [])) (passes_or_not home (before ++ x ∷ []) walk)
     where
-      Later : Type 0
-      Later = PassesFar r home (before ++ x ∷ []) walk
-
       later : (prefix rest : List Letter) → x ∷ walk ≡ prefix ++ rest → AreFar r home (before ++ prefix) → AreFar r home (before ++ []) ⊎ PassesFar r home (before ++ x ∷ []) walk
       later [] rest e f = inl f
       later (y ∷ prefix) rest e f =

@@ -18,7 +18,7 @@ use Rattle.reply_model.specs.TreeReadings.{tree_reading, IsTreeReply}
 pub record HaveOneReply (Due : History → Command → Reply → Type 0) : Type 0 where
   pub some : (history : History) (c : Command) → (x : Reply) × Due history c x
   pub one :
-    (history : History) (c : Command) (x y : Reply) → Due history c x → Due history c y → x ≡ y
+      (history : History) (c : Command) (x y : Reply) → Due history c x → Due history c y → x ≡ y
 
 -- the command alone where it makes or moves a walker, else nothing
 abbrev pub as_move : Command → List Command
@@ -52,8 +52,8 @@ InterleavingsAgree Due =
 -- Two readings say the same, word by word, in the trees of the kinds of the tessellation.
 pub record SayTheSame (kinds : List TileKind) (r s : Reading) : Type 0 where
   pub places :
-    (k : ℕ) → k < length kinds → (u : List Letter) (p : Position)
-    → r.HasPlace k u p ↔ s.HasPlace k u p
+      (k : ℕ) → k < length kinds → (u : List Letter) (p : Position)
+      → r.HasPlace k u p ↔ s.HasPlace k u p
   pub tiles : (u w : List Letter) → r.AreTogether u w ↔ s.AreTogether u w
   pub distances : (u w : List Letter) (n : ℕ) → r.AreApart u w n ↔ s.AreApart u w n
 
@@ -84,4 +84,4 @@ module _ (kinds : List TileKind) (a : TreeAutomaton) (k : ℕ) where
       → IsWalkReply kinds a k history (At w) (AtPlace name spin kind)
       → IsWalkReply kinds a k other (At v) (AtPlace name' spin' kind')
       → ((name ≡ name') × (spin ≡ spin'))
-        ↔ AreRelated kinds (k, 0) (walk_of history w) (walk_of other v)
+      ↔ AreRelated kinds (k, 0) (walk_of history w) (walk_of other v)
