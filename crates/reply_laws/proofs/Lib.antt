@@ -5,4 +5,5 @@ pub mod Histories
 pub mod Between
 pub mod BothReadings
 pub mod Names
+pub mod Depths
 pub mod Together
