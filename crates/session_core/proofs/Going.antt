@@ -20,7 +20,7 @@ use Rattle.reply_model.specs.Histories.{History, most_walkers}
 use Rattle.session_core.specs.Sessions.{SessionState, walker_at, IsWalker, IsSession, Stands}
 use Rattle.session_core.specs.Sessions.{over_walks, over_tree, StandsFor, StandsForWalks}
 use Rattle.session_core.specs.Sessions.{IsDueOverWalks, IsDueOverTree}
-use Rattle.session_core.specs.Answered.{HasAnswered, further}
+use Rattle.session_core.specs.Answered.{HasAnswered, extended}
 use Rattle.reply_laws.proofs.Histories.{none_due}
 use Rattle.reply_model.specs.Readings.{Reading}
 use Rattle.reply_model.specs.Replies.{IsReply}
@@ -149,7 +149,7 @@ module _ {E : Type 0} (old new : SessionState) (c : Command) where
   answered_due (Ok x) a = a.due
   answered_due (Err y) a = tt
 
-  pub answered_stands : (r : Result Reply E) → Answers r → IfOk r (λ x. (h : History) → StandsFor old h → StandsFor new (further h c x))
+  pub answered_stands : (r : Result Reply E) → Answers r → IfOk r (λ x. (h : History) → StandsFor old h → StandsFor new (extended h c x))
   answered_stands (Ok x) a = a.stands
   answered_stands (Err y) a = tt
 
@@ -157,6 +157,6 @@ module _ {E : Type 0} (old new : SessionState) (c : Command) where
   answered_due_over_walks (Ok x) a = a.due_over_walks
   answered_due_over_walks (Err y) a = tt
 
-  pub answered_stands_over_walks : (r : Result Reply E) → Answers r → IfOk r (λ x. (h : History) → StandsForWalks old h → StandsForWalks new (further h c x))
+  pub answered_stands_over_walks : (r : Result Reply E) → Answers r → IfOk r (λ x. (h : History) → StandsForWalks old h → StandsForWalks new (extended h c x))
   answered_stands_over_walks (Ok x) a = a.stands_over_walks
   answered_stands_over_walks (Err y) a = tt

@@ -7,8 +7,8 @@ use Rattle.session_core.specs.Sessions.{SessionState, StandsFor, StandsForWalks}
 use Rattle.session_core.specs.Sessions.{IsDueOverWalks, IsDueOverTree}
 
 -- the history, and behind it the command with its reply
-abbrev pub further : History → Command → Reply → History
-further history c x = history ++ (c, x) ∷ []
+abbrev pub extended : History → Command → Reply → History
+extended history c x = history ++ (c, x) ∷ []
 
 -- The session has answered the command by the reply.
 -- The reply is the one that is due after each history for which the session stood.
@@ -16,10 +16,11 @@ further history c x = history ++ (c, x) ∷ []
 -- Both are so over walks and over the tree.
 pub record HasAnswered (old : SessionState) (c : Command) (x : Reply) (new : SessionState) : Type 0
   where
-    pub due_over_walks : (history : History) → StandsForWalks old history → IsDueOverWalks old history c x
+    pub due_over_walks :
+        (history : History) → StandsForWalks old history → IsDueOverWalks old history c x
     pub stands_over_walks :
-        (history : History) → StandsForWalks old history → StandsForWalks new (further history c x)
+        (history : History) → StandsForWalks old history → StandsForWalks new (extended history c x)
     pub due : (history : History) → StandsFor old history → IsDueOverTree old history c x
-    pub stands : (history : History) → StandsFor old history → StandsFor new (further history c x)
+    pub stands : (history : History) → StandsFor old history → StandsFor new (extended history c x)
     pub rules : new.rules ≡ old.rules
     pub kind : new.kind ≡ old.kind

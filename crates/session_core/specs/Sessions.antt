@@ -46,8 +46,8 @@ HasNumbers (At w) = w < most_walkers
 HasNumbers (Same w v) = (w < most_walkers) × (v < most_walkers)
 
 -- By a reading of the words of a reply, a session stands for a history: the replies in it are due,
--- there is a spot for exactly the walkers that exist after it, and each spot is the place of the walk
--- of its walker.
+-- there is a spot for exactly the walkers that exist after it, and the spot of each is the place of
+-- its walk.
 pub record Stands (reading : Reading) (session : SessionState) (history : History) : Type 0 where
   pub replies : AreDue (IsReply session.rules.kinds session.kind reading) history
   pub walkers : (w : ℕ) → IsSome (walker_at session w) ↔ Exists history w

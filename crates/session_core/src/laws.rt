@@ -14,7 +14,8 @@ use structure_check::Rules;
 pub fn interleaving(r: &Rules, kind: u8)
     requires { kind < length r.now.kinds }
     ensures one_reply_over_walks { HaveOneReply (IsWalkReply r.now.kinds r.now.automaton kind) }
-    ensures interleavings_over_walks { InterleavingsAgree (IsWalkReply r.now.kinds r.now.automaton kind) }
+    ensures interleavings_over_walks { InterleavingsAgree
+        (IsWalkReply r.now.kinds r.now.automaton kind) }
     ensures one_reply { HaveOneReply (IsTreeReply r.now.kinds r.now.automaton kind) }
     ensures interleavings { InterleavingsAgree (IsTreeReply r.now.kinds r.now.automaton kind) }
 {

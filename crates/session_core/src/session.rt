@@ -6,7 +6,7 @@ ghost use Rattle.reply_model.specs.Histories.{History, most_walkers};
 ghost use Rattle.session_core.specs.Sessions.{IsSession, HasNumbers, walker_at};
 ghost use Rattle.session_core.specs.Sessions.{StandsFor, StandsForWalks};
 ghost use Rattle.session_core.specs.Sessions.{IsDueOverWalks, IsDueOverTree};
-ghost use Rattle.session_core.specs.Answered.{HasAnswered, further};
+ghost use Rattle.session_core.specs.Answered.{HasAnswered, extended};
 
 use reply_model::{Command, Reply, WALKERS};
 use std::alloc::{AllocError, Global};
@@ -31,7 +31,8 @@ impl<'r> Model for Session<'r> {
 
     ghost view = { λ s. record { rules = s.rules.now; kind = s.kind; walkers = s.walkers.items } };
 
-    ghost invariant = { λ s. IsSession (record { rules = s.rules.now; kind = s.kind; walkers = s.walkers.items }) };
+    ghost invariant = { λ s.
+        IsSession (record { rules = s.rules.now; kind = s.kind; walkers = s.walkers.items }) };
 }
 
 impl<'r> Session<'r> {
@@ -68,7 +69,7 @@ impl<'r> Session<'r> {
         ensures stands_over_walks { IfOk result (λ x.
             (history : History)
             → StandsForWalks self.old history
-            → StandsForWalks self.new (further history c.now x)) }
+            → StandsForWalks self.new (extended history c.now x)) }
         ensures memory_over_walks { OnErr result
             ((history : History)
             → StandsForWalks self.new history ↔ StandsForWalks self.old history) }
@@ -81,7 +82,7 @@ impl<'r> Session<'r> {
         ensures stands { IfOk result (λ x.
             (history : History)
             → StandsFor self.old history
-            → StandsFor self.new (further history c.now x)) }
+            → StandsFor self.new (extended history c.now x)) }
         ensures memory { OnErr result
             ((history : History) → StandsFor self.new history ↔ StandsFor self.old history) }
         ensures unchanged { OnErr result (self.new ≡ self.old) }
@@ -124,7 +125,8 @@ impl<'r> Session<'r> {
     /// Walker `w` goes along a walk. Where some crossing lies too deep it stays where it is.
     fn go(&mut self, w: u8, path: &Walk) -> Result<Reply, AllocError>
         requires { w < most_walkers }
-        ensures answered { IfOk result (λ x. HasAnswered self.old (Command.Go w path.now) x self.new) }
+        ensures answered { IfOk result
+            (λ x. HasAnswered self.old (Command.Go w path.now) x self.new) }
         ensures unchanged { OnErr result (self.new ≡ self.old) }
     {
         let Some(spot) = &mut self.walkers[w as usize] else {

@@ -1,5 +1,5 @@
-// Two streams of commands with the replies that are known from outside, and walkers on all ways of a few steps over five tessellations,
-// compared with a slow program that knows no rules.
+// Two streams of commands with the replies that are known from outside.
+// Walkers on all ways of a few steps over five tessellations, compared with a slow program that knows no rules.
 ghost use Rattle.std.specs.Prelude.{◌≤◌, length, IsTrue};
 ghost use Rattle.session_core.specs.Sessions.{HasNumbers};
 
@@ -139,7 +139,8 @@ fn way(alloc: Global, number: u8, last: u8) -> Result<Walk, AllocError> {
     Ok(walk)
 }
 
-// The number of ordered pairs of walkers on one tile, or None where the session and the slow program do not agree on some pair.
+// The number of ordered pairs of walkers on one tile.
+// None where the session and the slow program do not agree on some pair.
 fn together(session: &mut Session<'_>, tiles: &[u32]) -> Result<Option<u32>, AllocError> {
     let mut count = 0_u32;
     for w in 0..WALKERS {
