@@ -1,5 +1,4 @@
--- Over the tree, a walk comes too far from the root where it leads to a name that is too long, and the kind that a reply tells is
--- that of the state there.
+-- Over the tree, a walk comes too far from the root where it leads to a name that is too long.
 use Rattle.std.proofs.Common.{◌≡◌, ℕ, ◌<◌, List, [], length, refl, subst, sym}
 use Rattle.tile_model.specs.declared.Letter.{Letter}
 use Rattle.tile_model.specs.Tessellations.{TileKind}
@@ -17,7 +16,15 @@ module _ (kinds : List TileKind) (a : TreeAutomaton) (k : ℕ) where
     pub deep : deepest < length place.name
 
   pub far_from_deep : (u : List Letter) → LeadsDeep u → AreFar (tree_reading kinds a k) [] u
-  far_from_deep u d = record { distance = length d.place.name; apart = record { place = d.place; led = d.led; sides = refl }; far = d.deep }
+  far_from_deep u d = record {
+    distance = length d.place.name;
+    apart = record { place = d.place; led = d.led; sides = refl };
+    far = d.deep;
+  }
 
   pub deep_from_far : (u : List Letter) → AreFar (tree_reading kinds a k) [] u → LeadsDeep u
-  deep_from_far u f = record { place = f.apart.place; led = f.apart.led; deep = subst (λ n. deepest < n) (sym f.apart.sides) f.far }
+  deep_from_far u f = record {
+    place = f.apart.place;
+    led = f.apart.led;
+    deep = subst (λ n. deepest < n) (sym f.apart.sides) f.far;
+  }
