@@ -8,7 +8,7 @@ use Rattle.tree_model.specs.Conditions.{IsAccepted}
 use Rattle.tree_model.specs.Contours.{Mark, Tree, Opens, Closes, mirrored}
 use Rattle.tree_model.specs.Positions.{Position, IsPosition, mark, turn_right, from_left, from_right}
 use Rattle.tree_model.proofs.Positions.{right_position}
-use Rattle.tree_laws.specs.Directions.{mark_towards, inner_corner, bound, Arrives}
+use Rattle.tree_laws.specs.Directions.{mark_towards, inner_corner, most_open, Arrives}
 use Rattle.tree_laws.proofs.Ends.{opened, closed, there_match}
 use Rattle.tree_laws.proofs.Bounds.{forwards, backwards}
 use Rattle.tree_laws.proofs.TreePlane.{tree_land, plane, corner_known}
@@ -37,14 +37,9 @@ module _ (kinds : List TileKind) (a : TreeAutomaton) (k : ℕ) (valid : IsValid 
   inner_known true p h = corner_known kinds a k valid ok known p h
   inner_known false p h = corner_known kinds a k valid ok known (turn_right kinds a k p) (right_position kinds a k p h)
 
-  -- the counter fits, where ranks do and the name is no longer than a vector can be
-  pub bound_fits : (d : Bool) (p : Position) → rank a (inner_corner kinds a k d p) < 2 ^ 32 → length p.name < 2 ^ 63 → bound kinds a k d p < 2 ^ 127
-  bound_fits d p small deep =
-      let m = mul-le a.scale (suc (length p.name)) 65536 (2 ^ 63) ok.c1.limits.scale.1 deep in
-      omega (arith, m, small)
-
-  -- and it fits 64 bits for names of 2 ^ 46 sides at most
-  pub bound_fits_narrow : (d : Bool) (p : Position) → rank a (inner_corner kinds a k d p) < 2 ^ 32 → length p.name < 2 ^ 46 → bound kinds a k d p < 2 ^ 63
-  bound_fits_narrow d p small deep =
-      let m = mul-le a.scale (suc (length p.name)) 65536 (2 ^ 46) ok.c1.limits.scale.1 deep in
+module _ (kinds : List TileKind) (a : TreeAutomaton) (k : ℕ) (ok : IsAccepted kinds a) where
+  -- The counter fits, where ranks do and the name is that of a tile below a name in memory.
+  pub most_open_fits : (d : Bool) (p : Position) → rank a (inner_corner kinds a k d p) < 2 ^ 32 → length p.name < 2 ^ 65 → most_open kinds a k d p < 2 ^ 127
+  most_open_fits d p small deep =
+      let m = mul-le a.scale (suc (length p.name)) 65536 (2 ^ 65) ok.c1.limits.scale.1 deep in
       omega (arith, m, small)

@@ -1,4 +1,5 @@
--- The two directions along the contour of the tree of a kind: the turn, what each side is on the way, and the bound of the counter.
+-- The two directions along the contour of the tree of a kind: the turn, what each side is on the
+-- way, and how many brackets are open at most.
 use Rattle.std.specs.Prelude.{ℕ, suc, ◌+◌, ◌*◌, ◌≤◌, Bool, true, false, List, length}
 use Rattle.tile_model.specs.Tessellations.{TileKind}
 use Rattle.tree_model.specs.Automata.{TreeAutomaton, rank}
@@ -22,11 +23,13 @@ module _ (kinds : List TileKind) (a : TreeAutomaton) (k : ℕ) where
   inner_corner true p = (claim_of kinds a k p).corner
   inner_corner false p = (claim_of kinds a k (turn_right kinds a k p)).corner
 
-  -- above the weight of that corner
-  abbrev pub bound : Bool → Position → ℕ
-  bound d p = suc (a.scale * suc (length p.name) + rank a (inner_corner d p))
+  -- The most brackets that are open at once on the walk from a side: one more than the weight of
+  -- that corner is, at this depth, at most.
+  abbrev pub most_open : Bool → Position → ℕ
+  most_open d p = suc (a.scale * suc (length p.name) + rank a (inner_corner d p))
 
-  -- From p, about to turn, with c brackets open, the walk stops at q after n moves and one turn, and its counter is never above most.
+  -- From p, about to turn, with c brackets open, the walk stops at q after n moves and one turn, and
+  -- its counter is never above most.
   abbrev pub Runs : Bool → ℕ → ℕ → Position → ℕ → Position → Type 0
   Runs d most n p c q = Halts Position (turned d) (hop kinds a k) (mark_towards d) most n p c q
 
@@ -43,5 +46,5 @@ module _ (kinds : List TileKind) (a : TreeAutomaton) (k : ℕ) where
     pub position : IsPosition kinds a k q
     pub across : LiesAcross kinds a k p q
     pub moves : ℕ
-    pub few : moves ≤ most_moves (bound d p)
-    pub runs : Runs d (bound d p) moves p 1 q
+    pub few : moves ≤ most_moves (most_open d p)
+    pub runs : Runs d (most_open d p) moves p 1 q

@@ -5,5 +5,5 @@ pub mod laws;
 mod sides;
 mod spot;
 
-pub use sides::{corner_rank, next_left, next_right, rule, side_count};
+pub use sides::{brackets_fit, next_left, next_right, rule};
 pub use spot::Spot;
