@@ -4,9 +4,9 @@ use Rattle.std.proofs.lemmas.Bool.{cases_lt}
 use Rattle.std.proofs.Math.Nat.{eq-or-lt_of_le}
 use Rattle.tile_model.specs.Tessellations.{TileKind}
 use Rattle.tile_model.specs.Validity.{HasCount, HasSides, HasRepeat, HasPartner, HasValence, IsInvolution, HasCorner}
-use Rattle.tile_kinds.specs.declared.fault.KindFault.{KindFault}
-use Rattle.tile_kinds.specs.declared.fault.KindFault.TheVariants.{Count, Sides, Repeat, Partner, Valence, Involution, Corner}
-use Rattle.tile_kinds.specs.Faults.{AllKinds, AllTypes, IsFirstKind, IsFirstType, IsFault}
+use Rattle.tile_model.specs.declared.fault.KindFault.{KindFault}
+use Rattle.tile_model.specs.declared.fault.KindFault.TheVariants.{Count, Sides, Repeat, Partner, Valence, Involution, Corner}
+use Rattle.tile_model.specs.Faults.{AllKinds, AllTypes, IsFirstKind, IsFirstType, IsFault}
 
 -- the number of a fault's check
 abbrev check_of : KindFault → ℕ

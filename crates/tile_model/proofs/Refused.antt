@@ -2,9 +2,9 @@
 use Rattle.std.proofs.Common.{List}
 use Rattle.tile_model.specs.Tessellations.{TileKind}
 use Rattle.tile_model.specs.Validity.{IsValid}
-use Rattle.tile_kinds.specs.declared.fault.KindFault.{KindFault}
-use Rattle.tile_kinds.specs.declared.fault.KindFault.TheVariants.{Count, Sides, Repeat, Partner, Valence, Involution, Corner}
-use Rattle.tile_kinds.specs.Faults.{IsFault}
+use Rattle.tile_model.specs.declared.fault.KindFault.{KindFault}
+use Rattle.tile_model.specs.declared.fault.KindFault.TheVariants.{Count, Sides, Repeat, Partner, Valence, Involution, Corner}
+use Rattle.tile_model.specs.Faults.{IsFault}
 
 pub refuted : (kinds : List TileKind) (fault : KindFault) → IsFault kinds fault → IsValid kinds → ⊥
 refuted kinds Count h valid = h valid.count
