@@ -31,6 +31,27 @@ pub struct Detour {
 }
 
 impl Detour {
+    /// How many sides of the spot's name the name of the place begins with.
+    pub fn kept(&self) -> usize
+        ensures { result ≡ self.now.kept }
+    {
+        self.kept
+    }
+
+    /// The sides that follow those in the name of the place.
+    pub fn sides(&self) -> &[u8]
+        ensures { result.now ≡ self.now.sides.items }
+    {
+        self.sides.as_slice()
+    }
+
+    /// The side that is faced.
+    pub fn spin(&self) -> u8
+        ensures { result ≡ self.now.spin }
+    {
+        self.spin
+    }
+
     /// The detour that has not left the spot.
     pub(crate) fn start(s: &Spot, r: &Rules) -> Detour
         requires { IsSpot r.now s.now }
