@@ -54,7 +54,8 @@ fn corner(
     })
 }
 
-// The states of pentagons, four at a corner, with this rule at side 2 of state 2, and the corner types handed in.
+// The states of pentagons, four at a corner, with this rule at side 2 of state 2, and the corner
+// types handed in.
 fn pentagons(alloc: Global, rule: Rule, corners: Vec<Corner>) -> Result<Automaton, AllocError> {
     let one = [Parent, Right, Child(1), Child(1), Child(2)];
     let two = [Parent, Right, rule, Child(2), Left];
@@ -88,7 +89,8 @@ fn threes(alloc: Global, rank: u32) -> Result<Vec<Corner>, AllocError> {
     Ok(corners)
 }
 
-// The least broken condition and its place, if there is one. What is accepted has both parts, and what is refused gives them back.
+// The least broken condition and its place, if there is one. What is accepted has both parts, and
+// what is refused gives them back.
 fn first_broken(tess: Tessellation, a: Automaton) -> Option<(u8, u32, u8)> {
     match check(tess, a) {
         Ok(rules) => {
