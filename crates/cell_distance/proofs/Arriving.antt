@@ -12,7 +12,7 @@ use Rattle.tree_laws.proofs.Words.{root_type}
 use Rattle.tree_laws.proofs.Walking.{leads_append, leads_split, leads_same, lefts_from_first, sides_of_type}
 use Rattle.tree_laws.proofs.Stopping.{arrives_deep}
 use Rattle.structure_check.specs.Rules.{TreeRules, AreSound}
-use Rattle.turn_rules.specs.Spots.{TreeSpot, IsAt, position, root_kind, tile_sides}
+use Rattle.spot_laws.specs.Spots.{TreeSpot, IsAt, position, root_kind, tile_sides}
 use Rattle.step_engine.specs.declared.fault.StepFault.{StepFault}
 use Rattle.step_engine.specs.declared.fault.StepFault.TheVariants.{Deep, Memory}
 use Rattle.step_engine.specs.Crossings.{WalkLeadsTo, WalksDeep}

@@ -15,7 +15,7 @@ use Rattle.tree_model.specs.Positions.{Position, root, Leads}
 use Rattle.tree_laws.specs.Laws.{IsPlaceFrom, IsShortestWay, way_to}
 use Rattle.tree_laws.proofs.Places.{place_same}
 use Rattle.tree_laws.proofs.Between.{kind_known, distance_by_place, shortest_way}
-use Rattle.turn_rules.specs.Spots.{TreeSpot, position}
+use Rattle.spot_laws.specs.Spots.{TreeSpot, position}
 use Rattle.cell_distance.specs.declared.fault.DistFault.{DistFault}
 use Rattle.cell_distance.specs.declared.fault.DistFault.TheVariants.{Deep, Memory}
 use Rattle.cell_distance.specs.Passing.{PassesFar, LeadsFar, LeavesOut, ArrivesFrom, farthest}

@@ -8,7 +8,7 @@ use Rattle.tile_model.specs.Relation.{IsDistance}
 use Rattle.tree_model.specs.Automata.{TreeAutomaton}
 use Rattle.tree_model.specs.Positions.{Position, root, Leads}
 use Rattle.tree_laws.specs.Laws.{IsPlaceFrom}
-use Rattle.turn_rules.specs.Spots.{TreeSpot, position}
+use Rattle.spot_laws.specs.Spots.{TreeSpot, position}
 
 -- the greatest distance that is told
 abbrev pub farthest : ℕ

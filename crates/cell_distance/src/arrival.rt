@@ -8,7 +8,7 @@ ghost use Rattle.tree_model.specs.Names.{word};
 ghost use Rattle.tree_model.specs.Positions.{Leads, root};
 ghost use Rattle.tree_laws.specs.Laws.{way_to};
 ghost use Rattle.structure_check.specs.Rules.{AreSound};
-ghost use Rattle.turn_rules.specs.Spots.{position};
+ghost use Rattle.spot_laws.specs.Spots.{position};
 ghost use Rattle.cell_distance.specs.Passing.{LeadsFar, farthest};
 
 use crate::fault::DistFault;

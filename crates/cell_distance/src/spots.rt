@@ -9,7 +9,7 @@ ghost use Rattle.tree_model.specs.Places.{position_word};
 ghost use Rattle.tree_model.specs.Positions.{Position};
 ghost use Rattle.tree_laws.specs.Laws.{IsPlaceFrom, IsShortestWay, way_to};
 ghost use Rattle.structure_check.specs.Rules.{AreSound};
-ghost use Rattle.turn_rules.specs.Spots.{IsSpot, position, root_kind};
+ghost use Rattle.spot_laws.specs.Spots.{IsSpot, position, root_kind};
 ghost use Rattle.step_engine.specs.Crossings.{StandsAfter};
 ghost use Rattle.cell_distance.specs.Passing.{PassesFar, LeavesOut, ArrivesFrom, farthest};
 

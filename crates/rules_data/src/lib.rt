@@ -5,8 +5,10 @@
 mod automaton;
 mod corner;
 mod state;
+mod turning;
 
 pub use automaton::Automaton;
 pub use corner::Corner;
 pub use state::State;
 pub use tree_model::{Claim, Rule};
+pub use turning::{left_side, right_side};

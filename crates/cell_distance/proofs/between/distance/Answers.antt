@@ -1,6 +1,6 @@
 use Rattle.std.proofs.Common.{subst, sym}
 use Rattle.tile_model.specs.Relation.{IsDistance}
-use Rattle.turn_rules.specs.Spots.{position}
+use Rattle.spot_laws.specs.Spots.{position}
 use Rattle.tree_laws.proofs.Between.{distance_by_place}
 use Rattle.cell_distance.proofs.between.distance.Goals as goal
 

@@ -2,7 +2,7 @@ use Rattle.std.proofs.Common.{◌≡◌, ℕ, ap, ap₂, ◌∙◌, subst, sym}
 use Rattle.tile_model.specs.Walks.{type_of}
 use Rattle.tree_model.specs.Positions.{Position}
 use Rattle.tree_laws.specs.Laws.{IsShortestWay, way_to}
-use Rattle.turn_rules.specs.Spots.{position}
+use Rattle.spot_laws.specs.Spots.{position}
 use Rattle.tree_laws.proofs.Between.{shortest_way}
 use Rattle.cell_distance.proofs.Leaving.{way_named}
 use Rattle.cell_distance.proofs.between.shortest.Goals as goal

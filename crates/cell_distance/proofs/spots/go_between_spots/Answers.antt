@@ -5,7 +5,7 @@ use Rattle.tile_model.specs.Walks.{type_of}
 use Rattle.tree_model.specs.Names.{word}
 use Rattle.tree_model.specs.Places.{position_word}
 use Rattle.tree_laws.proofs.Words.{word_type, crossings_position}
-use Rattle.turn_rules.specs.Spots.{position, root_kind}
+use Rattle.spot_laws.specs.Spots.{position, root_kind}
 use Rattle.cell_distance.specs.Passing.{ArrivesFrom}
 use Rattle.cell_distance.specs.declared.fault.DistFault.TheVariants.{Deep}
 use Rattle.cell_distance.proofs.Cancelling.{far_onwards, far_inwards}

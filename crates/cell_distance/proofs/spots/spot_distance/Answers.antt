@@ -4,7 +4,7 @@ use Rattle.tile_model.proofs.Relations.{related_back}
 use Rattle.tree_model.specs.Names.{word}
 use Rattle.tree_model.specs.Places.{IsPlace, position_word}
 use Rattle.tree_laws.proofs.Between.{distance_by_place}
-use Rattle.turn_rules.specs.Spots.{position, root_kind}
+use Rattle.spot_laws.specs.Spots.{position, root_kind}
 use Rattle.cell_distance.specs.declared.fault.DistFault.TheVariants.{Deep}
 use Rattle.cell_distance.proofs.Cancelling.{far_from}
 use Rattle.cell_distance.proofs.Leaving.{stays_deep, was_told}

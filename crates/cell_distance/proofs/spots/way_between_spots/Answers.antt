@@ -3,7 +3,7 @@ use Rattle.tile_model.specs.declared.Letter.TheVariants.{R}
 use Rattle.tile_model.specs.Walks.{inverse}
 use Rattle.tree_model.specs.Names.{word}
 use Rattle.tree_model.specs.Places.{position_word}
-use Rattle.turn_rules.specs.Spots.{position}
+use Rattle.spot_laws.specs.Spots.{position}
 use Rattle.cell_distance.specs.Passing.{LeavesOut}
 use Rattle.cell_distance.proofs.Leaving.{from_on}
 use Rattle.cell_distance.proofs.Spotted.{spots_leave_out}
