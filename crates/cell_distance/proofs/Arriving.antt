@@ -18,7 +18,8 @@ use Rattle.step_engine.specs.declared.fault.StepFault.TheVariants.{Deep, Memory}
 use Rattle.step_engine.specs.Crossings.{WalkLeadsTo, WalksDeep}
 use Rattle.cell_distance.specs.declared.fault.DistFault.{DistFault}
 use Rattle.cell_distance.specs.declared.fault.DistFault.TheVariants.{Deep as TooFar, Memory as NoMemory}
-use Rattle.cell_distance.specs.Passing.{LeadsFar, farthest}
+use Rattle.tree_model.specs.Limits.{deepest}
+use Rattle.cell_distance.specs.Passing.{LeadsFar}
 
 -- a walk that was gone met no fault
 pub was_no_fault : (result : Result (Unit {0}) StepFault) (x : Unit {0}) → result ≡ Ok x → IsErrOf result Deep ⊎ IsErrOf result Memory → ⊥
@@ -62,7 +63,7 @@ module _ (r : TreeRules) (sound : AreSound r) (k : ℕ) (known : k < length r.ki
         let there = subst (λ j. Leads r.kinds r.automaton j (position s) way q) at.tree h in
         leads_append r.kinds r.automaton k (replicate side L) way root (position s) q turns_lead there
 
-    pub deep_far : (way : List Letter) → WalksDeep r s way farthest → LeadsFar r.kinds r.automaton k side way
+    pub deep_far : (way : List Letter) → WalksDeep r s way deepest → LeadsFar r.kinds r.automaton k side way
     deep_far way d = record {
       prefix = d.before ++ X ∷ [];
       rest = d.behind;
@@ -72,10 +73,10 @@ module _ (r : TreeRules) (sound : AreSound r) (k : ℕ) (known : k < length r.ki
       deep = d.deep;
     }
 
-    walks_deep : (way p rest : List Letter) (q : Position) → way ≡ p ++ rest → Leads r.kinds r.automaton k (position s) p q → farthest < length q.name → WalksDeep r s way farthest
+    walks_deep : (way p rest : List Letter) (q : Position) → way ≡ p ++ rest → Leads r.kinds r.automaton k (position s) p q → deepest < length q.name → WalksDeep r s way deepest
     walks_deep way p rest q e l d =
-        let near : length s.name ≤ farthest = omega (arith, ap (λ (t : Position). length t.name) at.stands) in
-        let stop = arrives_deep r.kinds r.automaton k farthest p (position s) q near l d in
+        let near : length s.name ≤ deepest = omega (arith, ap (λ (t : Position). length t.name) at.stands) in
+        let stop = arrives_deep r.kinds r.automaton k deepest p (position s) q near l d in
         record {
           before = stop.before;
           behind = stop.behind ++ rest;
@@ -85,14 +86,14 @@ module _ (r : TreeRules) (sound : AreSound r) (k : ℕ) (known : k < length r.ki
           deep = stop.deep;
         }
 
-    pub far_deep : (way : List Letter) → LeadsFar r.kinds r.automaton k side way → WalksDeep r s way farthest
+    pub far_deep : (way : List Letter) → LeadsFar r.kinds r.automaton k side way → WalksDeep r s way deepest
     far_deep way h =
         let (m, first, second) = leads_split r.kinds r.automaton k (replicate side L) h.prefix root h.there h.leads in
         let same : m ≡ position s = leads_same r.kinds r.automaton k sound.valid sound.accepted known (replicate side L) root m (position s) first turns_lead in
         walks_deep way h.prefix h.rest h.there h.split (subst (λ n. Leads r.kinds r.automaton k n h.prefix h.there) same second) h.deep
 
     -- where no crossing on the way is too deep, its end is not
-    pub end_near : (way : List Letter) (q : Position) → WalkLeadsTo r s way q → (WalksDeep r s way farthest → ⊥) → length q.name ≤ farthest
+    pub end_near : (way : List Letter) (q : Position) → WalkLeadsTo r s way q → (WalksDeep r s way deepest → ⊥) → length q.name ≤ deepest
     end_near way q h none =
         let there = subst (λ j. Leads r.kinds r.automaton j (position s) way q) at.tree h in
-        ⊎_elim (λ d. absurd (none (walks_deep way way [] q (sym (append-nil way)) there d))) (λ n. n) (cases_lt farthest (length q.name))
+        ⊎_elim (λ d. absurd (none (walks_deep way way [] q (sym (append-nil way)) there d))) (λ n. n) (cases_lt deepest (length q.name))

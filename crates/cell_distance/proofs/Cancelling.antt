@@ -21,7 +21,8 @@ use Rattle.tree_laws.proofs.Places.{leads_place}
 use Rattle.tree_laws.proofs.Levels.{start_type}
 use Rattle.tree_laws.proofs.Between.{kind_known}
 use Rattle.tree_laws.proofs.Together.{distance_onwards}
-use Rattle.cell_distance.specs.Passing.{PassesFar, LeadsFar, farthest}
+use Rattle.tree_model.specs.Limits.{deepest}
+use Rattle.cell_distance.specs.Passing.{PassesFar, LeadsFar}
 use Rattle.cell_distance.proofs.Splits.{Splits, inside, beyond, splits}
 
 -- back along c and u, and then along c and w, is back along u and then along w
@@ -97,7 +98,7 @@ module _ (kinds : List TileKind) (a : TreeAutomaton) (k : ℕ) (valid : IsValid 
           record { prefix = there; rest = h.rest; split = split; distance = length h.there.name; apart = same_distance (c ++ u) ((c ++ u) ++ h.prefix) ((c ++ u) ++ there) (length h.there.name) same distance; far = h.deep }
 
   -- a way that leads on from u leads in the tree to the depth that its distance tells
-  far_in_tree : (u way p r : List Letter) (n : ℕ) → way ≡ p ++ r → IsDistance kinds (k, 0) u (u ++ p) n → farthest < n → LeadsFar kinds a (kind_at_end u) (side_at_end u) way
+  far_in_tree : (u way p r : List Letter) (n : ℕ) → way ≡ p ++ r → IsDistance kinds (k, 0) u (u ++ p) n → deepest < n → LeadsFar kinds a (kind_at_end u) (side_at_end u) way
   far_in_tree u way p r n e h f =
       let j = (type_of kinds (k, 0) u).0 in
       let turns : List Letter = replicate (type_of kinds (k, 0) u).1 L in
@@ -106,17 +107,17 @@ module _ (kinds : List TileKind) (a : TreeAutomaton) (k : ℕ) (valid : IsValid 
       let place = leads_place kinds a j valid ok j_known (turns ++ p) q leads in
       let d = distance_onwards kinds a k valid ok known u p q place in
       let same = one_distance kinds (k, 0) u (u ++ p) n (length q.name) h d in
-      record { prefix = p; rest = r; split = e; there = q; leads = leads; deep = subst (λ m. farthest < m) same f }
+      record { prefix = p; rest = r; split = e; there = q; leads = leads; deep = subst (λ m. deepest < m) same f }
 
   -- What is far from the tile of u on the way of c, and then w, is far on the way that leaves c out, where u is no longer than may be told.
-  onward_back : (c u w p r : List Letter) (n : ℕ) → crossings (c ++ u) ≤ farthest → c ++ w ≡ p ++ r → IsDistance kinds (k, 0) (c ++ u) p n → farthest < n → LeadsFar kinds a (kind_at_end (c ++ u)) (side_at_end (c ++ u)) (inverse u ++ w)
+  onward_back : (c u w p r : List Letter) (n : ℕ) → crossings (c ++ u) ≤ deepest → c ++ w ≡ p ++ r → IsDistance kinds (k, 0) (c ++ u) p n → deepest < n → LeadsFar kinds a (kind_at_end (c ++ u)) (side_at_end (c ++ u)) (inverse u ++ w)
   onward_back c u w p r n short e h far = go (splits c w p r e)
     where
       go : Splits c w p r → LeadsFar kinds a (kind_at_end (c ++ u)) (side_at_end (c ++ u)) (inverse u ++ w)
       go (inside m f) =
           let shape : c ++ u ≡ p ++ (m ++ u) = ap (λ l. l ++ u) f ∙ append_assoc p m u in
           let near = front_near p (m ++ u) n (subst (λ l. IsDistance kinds (k, 0) l p n) shape h) in
-          let short' = subst (λ l. crossings l ≤ farthest) shape short in
+          let short' = subst (λ l. crossings l ≤ deepest) shape short in
           absurd (omega (arith, near, short', far))
       go (beyond m f g) =
           let split : inverse u ++ w ≡ (inverse u ++ m) ++ r = ap (λ l. inverse u ++ l) g ∙ sym (append_assoc (inverse u) m r) in
@@ -124,7 +125,7 @@ module _ (kinds : List TileKind) (a : TreeAutomaton) (k : ℕ) (valid : IsValid 
           let same = related_on kinds (related_equal kinds f) (related_on kinds (related_back kinds back) (related_back kinds (related_before kinds (c ++ u) (cancelled kinds (type_of kinds (k, 0) (c ++ u)) c u m)))) in
           far_in_tree (c ++ u) (inverse u ++ w) (inverse u ++ m) r n split (same_distance (c ++ u) p ((c ++ u) ++ (inverse u ++ m)) n same h) far
 
-  pub far_here : (c u w : List Letter) → crossings (c ++ u) ≤ farthest → PassesFar kinds (k, 0) (c ++ u) (c ++ u) (inverse (c ++ u) ++ (c ++ w)) → LeadsFar kinds a (kind_at_end (c ++ u)) (side_at_end (c ++ u)) (inverse u ++ w)
+  pub far_here : (c u w : List Letter) → crossings (c ++ u) ≤ deepest → PassesFar kinds (k, 0) (c ++ u) (c ++ u) (inverse (c ++ u) ++ (c ++ w)) → LeadsFar kinds a (kind_at_end (c ++ u)) (side_at_end (c ++ u)) (inverse u ++ w)
   far_here c u w short h = go (splits (inverse (c ++ u)) (c ++ w) h.prefix h.rest h.split)
     where
       go : Splits (inverse (c ++ u)) (c ++ w) h.prefix h.rest → LeadsFar kinds a (kind_at_end (c ++ u)) (side_at_end (c ++ u)) (inverse u ++ w)
@@ -138,7 +139,7 @@ module _ (kinds : List TileKind) (a : TreeAutomaton) (k : ℕ) (valid : IsValid 
   far_whole u w h = far_in_tree u (inverse u ++ w) h.prefix h.rest h.distance h.split h.apart h.far
 
   -- Of a walk u that is no longer than may be told, the way back along it never is too far; so what is far lies on w.
-  pub far_onwards : (u w : List Letter) → crossings u ≤ farthest → PassesFar kinds (k, 0) u u (inverse u ++ w) → PassesFar kinds (k, 0) u [] w
+  pub far_onwards : (u w : List Letter) → crossings u ≤ deepest → PassesFar kinds (k, 0) u u (inverse u ++ w) → PassesFar kinds (k, 0) u [] w
   far_onwards u w short h = go (splits (inverse u) w h.prefix h.rest h.split)
     where
       go : Splits (inverse u) w h.prefix h.rest → PassesFar kinds (k, 0) u [] w

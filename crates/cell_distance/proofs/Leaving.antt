@@ -18,7 +18,8 @@ use Rattle.tree_laws.proofs.Between.{kind_known, distance_by_place, shortest_way
 use Rattle.spot_laws.specs.Spots.{TreeSpot, position}
 use Rattle.cell_distance.specs.declared.fault.DistFault.{DistFault}
 use Rattle.cell_distance.specs.declared.fault.DistFault.TheVariants.{Deep, Memory}
-use Rattle.cell_distance.specs.Passing.{PassesFar, LeadsFar, LeavesOut, ArrivesFrom, farthest}
+use Rattle.tree_model.specs.Limits.{deepest}
+use Rattle.cell_distance.specs.Passing.{PassesFar, LeadsFar, LeavesOut, ArrivesFrom}
 use Rattle.cell_distance.proofs.Cancelling.{place_of_rest, far_there, far_here, far_whole}
 
 -- the letters from the n-th on
@@ -26,7 +27,7 @@ pub from_on : {A : Type 0} (n : ℕ) (l : List A) → take (length l - n) (drop 
 from_on n l = let e = length-drop n l in take_all (length l - n) (drop n l) (omega (arith, e))
 
 -- what is left of two walks behind their common beginning, joined by the way back along the first
-pub leaves_out : (u w : List Letter) (n : ℕ) → take n u ≡ take n w → (n ≡ 0) ⊎ (crossings u ≤ farthest) → LeavesOut u w (inverse (drop n u) ++ drop n w)
+pub leaves_out : (u w : List Letter) (n : ℕ) → take n u ≡ take n w → (n ≡ 0) ⊎ (crossings u ≤ deepest) → LeavesOut u w (inverse (drop n u) ++ drop n w)
 leaves_out u w n same short = record {
   common = take n u;
   back = drop n u;
@@ -37,7 +38,7 @@ leaves_out u w n same short = record {
   short = few short;
 }
   where
-    few : (n ≡ 0) ⊎ (crossings u ≤ farthest) → (take n u ≡ []) ⊎ (crossings u ≤ farthest)
+    few : (n ≡ 0) ⊎ (crossings u ≤ deepest) → (take n u ≡ []) ⊎ (crossings u ≤ deepest)
     few (inl none) = inl (ap (λ i. take i u) none)
     few (inr s) = inr s
 
@@ -78,8 +79,8 @@ module _ (kinds : List TileKind) (a : TreeAutomaton) (k : ℕ) (valid : IsValid 
         on : Passes (l.common ++ l.back) (l.common ++ l.onwards)
         on = subst (λ v. Passes v (l.common ++ l.onwards)) l.first (subst (λ z. Passes u z) l.second h)
 
-        go : (l.common ≡ []) ⊎ (crossings u ≤ farthest) → Far u (inverse l.back ++ l.onwards)
-        go (inr short) = subst (λ v. Far v (inverse l.back ++ l.onwards)) (sym l.first) (far_here kinds a k valid ok known l.common l.back l.onwards (subst (λ v. crossings v ≤ farthest) l.first short) on)
+        go : (l.common ≡ []) ⊎ (crossings u ≤ deepest) → Far u (inverse l.back ++ l.onwards)
+        go (inr short) = subst (λ v. Far v (inverse l.back ++ l.onwards)) (sym l.first) (far_here kinds a k valid ok known l.common l.back l.onwards (subst (λ v. crossings v ≤ deepest) l.first short) on)
         go (inl none) =
             let same : u ≡ l.back = l.first ∙ ap (λ c. c ++ l.back) none in
             let rest : w ≡ l.onwards = l.second ∙ ap (λ c. c ++ l.onwards) none in
@@ -88,7 +89,7 @@ module _ (kinds : List TileKind) (a : TreeAutomaton) (k : ℕ) (valid : IsValid 
 
     -- The way that was gone leads on from side s of the root of a tree of kind j, where these are the type of the end of u.
     module _ (j s : ℕ) (start : (j, s) ≡ type_of kinds (k, 0) u) where
-      pub arrives : (there : TreeSpot) → Leads kinds a j root (replicate s L ++ way) (position there) → length there.name ≤ farthest → ArrivesFrom kinds a k u w (j, s) there
+      pub arrives : (there : TreeSpot) → Leads kinds a j root (replicate s L ++ way) (position there) → length there.name ≤ deepest → ArrivesFrom kinds a k u w (j, s) there
       arrives there h near = record {
         starts = start;
         place = place_found (position there) (subst (λ (d : ℕ × ℕ). Leads kinds a d.0 root (replicate d.1 L ++ way) (position there)) start h);

@@ -22,7 +22,8 @@ use Rattle.tree_laws.proofs.Places.{one_place, places_same_tile}
 use Rattle.tree_laws.proofs.Shortest.{inverse_lefts}
 use Rattle.tree_laws.proofs.Levels.{start_type, turns_reach}
 use Rattle.tree_laws.proofs.Between.{kind_known, shortest_way}
-use Rattle.cell_distance.specs.Passing.{LeavesOut, farthest}
+use Rattle.tree_model.specs.Limits.{deepest}
+use Rattle.cell_distance.specs.Passing.{LeavesOut}
 
 pub word_append : (m n : List ℕ) → word (m ++ n) ≡ word m ++ word n
 word_append [] n = refl
@@ -40,7 +41,7 @@ one_side_back way m rest i e =
     ∙ ap (λ l. way ++ l) (sym (word_back m i) ∙ ap (λ n. inverse (word n)) (sym e))
 
 -- the way between the words of two spots, from the place where their names part
-pub spots_leave_out : (m n : List ℕ) (side kept : ℕ) → take kept m ≡ take kept n → length m ≤ farthest → LeavesOut (position_word (record { name = m; side = side })) (word n) ((replicate side R ++ inverse (word (drop kept m))) ++ word (drop kept n))
+pub spots_leave_out : (m n : List ℕ) (side kept : ℕ) → take kept m ≡ take kept n → length m ≤ deepest → LeavesOut (position_word (record { name = m; side = side })) (word n) ((replicate side R ++ inverse (word (drop kept m))) ++ word (drop kept n))
 spots_leave_out m n side kept same few = record {
   common = word (take kept m);
   back = word (drop kept m) ++ replicate side L;

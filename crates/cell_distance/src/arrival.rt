@@ -9,7 +9,8 @@ ghost use Rattle.tree_model.specs.Positions.{Leads, root};
 ghost use Rattle.tree_laws.specs.Laws.{way_to};
 ghost use Rattle.structure_check.specs.Rules.{AreSound};
 ghost use Rattle.spot_laws.specs.Spots.{position};
-ghost use Rattle.cell_distance.specs.Passing.{LeadsFar, farthest};
+ghost use Rattle.tree_model.specs.Limits.{deepest};
+ghost use Rattle.cell_distance.specs.Passing.{LeadsFar};
 
 use crate::fault::DistFault;
 use cell_names::Name;
@@ -32,7 +33,7 @@ pub fn arrive(
     requires side { side < sides r.now.kinds (kind, 0) }
     ensures leads { IfOk result (λ s.
         Leads r.now.kinds r.now.automaton kind root (replicate side L ++ way.now) (position s)) }
-    ensures near { IfOk result (λ s. length s.name ≤ farthest) }
+    ensures near { IfOk result (λ s. length s.name ≤ deepest) }
     ensures deep { IsErrOf result DistFault.Deep
         → LeadsFar r.now.kinds r.now.automaton kind side way.now }
     ensures too_deep { LeadsFar r.now.kinds r.now.automaton kind side way.now

@@ -6,7 +6,8 @@ ghost use Rattle.tile_model.specs.Relation.{IsDistance};
 ghost use Rattle.tree_model.specs.Positions.{Position};
 ghost use Rattle.tree_laws.specs.Laws.{IsPlaceFrom, IsShortestWay, way_to};
 ghost use Rattle.structure_check.specs.Rules.{AreSound};
-ghost use Rattle.cell_distance.specs.Passing.{PassesFar, LeavesOut, ArrivesFrom, farthest};
+ghost use Rattle.tree_model.specs.Limits.{deepest};
+ghost use Rattle.cell_distance.specs.Passing.{PassesFar, LeavesOut, ArrivesFrom};
 
 use crate::arrival::{arrive, opposite, way_along};
 use crate::fault::DistFault;
@@ -17,7 +18,7 @@ use turn_rules::Spot;
 use walk_words::{Letter, Walk, type_of};
 
 /// The most crossings of a first walk whose beginning may be left out.
-const FARTHEST: u64 = 4_000;
+const FEW_CROSSINGS: u64 = tree_model::DEEPEST as u64;
 
 /// The least number of crossings of a walk from the tile of `u` to the tile of `w`, both walked
 /// from side 0 of a kind of the tessellation.
@@ -110,9 +111,9 @@ fn left_out(u: &Walk, w: &Walk) -> usize
     ensures first { result ≤ length u.now }
     ensures second { result ≤ length w.now }
     ensures same { take result u.now ≡ take result w.now }
-    ensures few { (result ≡ 0) ⊎ (crossings u.now ≤ farthest) }
+    ensures few { (result ≡ 0) ⊎ (crossings u.now ≤ deepest) }
 {
-    if u.crossings() > FARTHEST {
+    if u.crossings() > FEW_CROSSINGS {
         return 0;
     }
     shared(u.letters(), w.letters())

@@ -11,7 +11,8 @@ ghost use Rattle.tree_laws.specs.Laws.{IsPlaceFrom, IsShortestWay, way_to};
 ghost use Rattle.structure_check.specs.Rules.{AreSound};
 ghost use Rattle.spot_laws.specs.Spots.{IsSpot, position, root_kind};
 ghost use Rattle.step_engine.specs.Crossings.{StandsAfter};
-ghost use Rattle.cell_distance.specs.Passing.{PassesFar, LeavesOut, ArrivesFrom, farthest};
+ghost use Rattle.tree_model.specs.Limits.{deepest};
+ghost use Rattle.cell_distance.specs.Passing.{PassesFar, LeavesOut, ArrivesFrom};
 
 use crate::arrival::{arrive, push_turns, push_word, way_along};
 use crate::fault::DistFault;
@@ -30,7 +31,7 @@ pub fn spot_distance(alloc: Global, r: &Rules, s: &Spot, t: &Spot) -> Result<u32
     requires first { IsSpot r.now s.now }
     requires second { IsSpot r.now t.now }
     requires tree { root_kind r.now t.now ≡ root_kind r.now s.now }
-    requires near { length s.now.name ≤ farthest }
+    requires near { length s.now.name ≤ deepest }
     ensures least { IfOk result (λ n. (u w : List Letter)
         → StandsAfter r.now s.now u → StandsAfter r.now t.now w
         → IsDistance r.now.kinds (root_kind r.now s.now, 0) u w n) }
@@ -53,7 +54,7 @@ pub fn spot_shortest(alloc: Global, r: &Rules, s: &Spot, t: &Spot) -> Result<Wal
     requires first { IsSpot r.now s.now }
     requires second { IsSpot r.now t.now }
     requires tree { root_kind r.now t.now ≡ root_kind r.now s.now }
-    requires near { length s.now.name ≤ farthest }
+    requires near { length s.now.name ≤ deepest }
     ensures least { IfOk result (λ z. (u w : List Letter)
         → StandsAfter r.now s.now u → StandsAfter r.now t.now w
         → IsShortestWay r.now.kinds (root_kind r.now s.now, 0) u w z) }
@@ -80,7 +81,7 @@ fn go_between_spots(
     t: &Spot,
 ) -> Result<(DartType, Spot), DistFault>
     requires first { IsSpot r.now s.now }
-    requires near { length s.now.name ≤ farthest }
+    requires near { length s.now.name ≤ deepest }
     ensures sound { AreSound r.now }
     ensures arrives { IfOk result (λ e.
         ArrivesFrom r.now.kinds r.now.automaton (root_kind r.now s.now)
@@ -101,7 +102,7 @@ fn go_between_spots(
 /// The way from the end of the word of `s` to the tile of `t`, without what both words share: the
 /// sides that their names begin with.
 fn way_between_spots(alloc: Global, s: &Spot, t: &Spot) -> Result<Walk, AllocError>
-    requires { length s.now.name ≤ farthest }
+    requires { length s.now.name ≤ deepest }
     ensures { IfOk result (λ way.
         LeavesOut (position_word (position s.now)) (word t.now.name) way) }
 {

@@ -1,7 +1,8 @@
 // A crossing that keeps a log, in the place of the contour.
 ghost use Rattle.std.specs.Prelude.{◌≡◌};
 
-use super::builders::{pentagons, start};
+use super::start;
+use sample_tilings::pentagons;
 use crate::{Contour, Crossing, Detour, StepFault, walk_over};
 use std::alloc::AllocError;
 use std::test::Fail;
@@ -52,7 +53,7 @@ impl<'r> Logged<'r> {
 #[test]
 fn logs_what_a_walk_crosses(rt: HostRuntime) -> Result<(), Fail> {
     let alloc = rt.alloc();
-    let Some(r) = pentagons(alloc)? else {
+    let Some(r) = pentagons(alloc) else {
         panic!(rt; "refused");
     };
     let Some(mut s) = start(alloc, &r)? else {
