@@ -76,7 +76,7 @@ module _ (gives takes : Bool) (old : SessionState) (left taken : List ℕ) (new 
     kind = session.kind;
     stands = λ before here.
         let it = session.stands before here in
-        (it.0, record { bytes = bytes; read = given t; out = out; output = it.1; written = written u }, it.2);
+        (it.0, record { bytes = bytes; read = given t; within = few; out = out; output = it.1; written = written u }, it.2);
   }
   read_fault _ (ends_over bytes more out given full some session written) t u e = absurd (cc)
   read_fault _ (ends_stopped stop bytes out given front written) t u e = absurd (not_unread stop e)
