@@ -77,11 +77,32 @@ pub fn serve<I: Source, O: Sink>(
     ensures kept { IsTrue O.tells → TakesMore (O.taken out.old) (O.taken out.new) }
 {
     let mut waiting = Vec::new(alloc);
-    let mut outbox = Outbox::new(out, &mut waiting);
-    serve_lines(alloc, session, input, &mut outbox)
+    serve_through(alloc, session, input, out, &mut waiting)
 }
 
 /// Answers the lines of a stream, and tells in one clause how that ended. Nothing waits before.
+fn serve_through<I: Source, O: Sink>(
+    alloc: Global,
+    session: &mut Session<'_>,
+    input: &mut I,
+    out: &mut O,
+    waiting: &mut Vec<u8>,
+) -> Ending
+    requires written { waiting.old.items ≡ [] }
+    ensures ends { EndsAs I.tells O.tells
+        session.old (I.left input.old) (O.taken out.old)
+        session.new (I.left input.new) (O.taken out.new) result }
+    ensures read_cause { result ≡ Ending.ReadFault
+        → Rose (I.faults input.old) (I.faults input.new) }
+    ensures write_cause { result ≡ Ending.WriteFault → Rose (O.faults out.old) (O.faults out.new) }
+    ensures reads_later { I.faults input.old ≤ I.faults input.new }
+    ensures writes_later { O.faults out.old ≤ O.faults out.new }
+{
+    let mut outbox = Outbox::new(out, waiting);
+    serve_lines(alloc, session, input, &mut outbox)
+}
+
+/// Answers the lines of a stream into an outbox, in which nothing waits before.
 fn serve_lines<I: Source, O: Sink>(
     alloc: Global,
     session: &mut Session<'_>,
