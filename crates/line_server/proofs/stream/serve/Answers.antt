@@ -8,7 +8,8 @@ pub returns-clause-read_fault : goal.returns-clause-read_fault
 returns-clause-read_fault g c = ends.read_fault _ _ _ _ _ _ _ _ _ c.serve_through.ensures.ends
 
 pub returns-clause-input_too_long : goal.returns-clause-input_too_long
-returns-clause-input_too_long g c = ends.input_too_long _ _ _ _ _ _ _ _ _ c.serve_through.ensures.ends
+returns-clause-input_too_long g c =
+    ends.input_too_long _ _ _ _ _ _ _ _ _ c.serve_through.ensures.ends
 
 pub returns-clause-begun : goal.returns-clause-begun
 returns-clause-begun g c = ends.begun _ _ _ _ _ _ _ _ _ c.serve_through.ensures.ends
