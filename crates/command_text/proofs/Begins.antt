@@ -16,11 +16,11 @@ pub begins_on :
     (bytes middle front : List ℕ) → Begins bytes middle → Begins middle front → Begins bytes front
 begins_on bytes middle front late early =
     let outer : bytes ≡ middle ++ drop (length middle) bytes =
-      sym (take-append-drop (length middle) bytes)
-      ∙ ap (λ (l : List ℕ). l ++ drop (length middle) bytes) late in
+    sym (take-append-drop (length middle) bytes)
+    ∙ ap (λ (l : List ℕ). l ++ drop (length middle) bytes) late in
     let inner : middle ≡ front ++ drop (length front) middle =
-      sym (take-append-drop (length front) middle)
-      ∙ ap (λ (l : List ℕ). l ++ drop (length front) middle) early in
+    sym (take-append-drop (length front) middle)
+    ∙ ap (λ (l : List ℕ). l ++ drop (length front) middle) early in
     begins_more bytes front (drop (length front) middle ++ drop (length middle) bytes)
     (outer ∙ ap (λ (l : List ℕ). l ++ drop (length middle) bytes) inner ∙ append_assoc front (drop (length front) middle) (drop (length middle) bytes))
 

@@ -38,6 +38,7 @@ cut (byte ∷ bytes) = go (cases_eq byte space) (cut bytes) where
     lacks = All-cons (λ b. b ≢ space) byte c.front other c.lacks;
   })
   behind other (inr lacks) = inr (All-cons (λ b. b ≢ space) byte bytes other lacks)
+
   go :
       (byte ≡ space) ⊎ (byte ≢ space) → IsCut bytes ⊎ Lacks space bytes
       → IsCut (byte ∷ bytes) ⊎ Lacks space (byte ∷ bytes)
@@ -97,10 +98,12 @@ walk_or (byte ∷ bytes) = go (cases_eq byte 45) (letters_or (byte ∷ bytes)) b
       → (walk : List Letter) → walk_text walk ≢ byte ∷ bytes
   no_walk none other [] = other
   no_walk none other (x ∷ walk) = none (x ∷ walk)
+
   some_walk :
       (walk : List Letter) → map letter_code walk ≡ byte ∷ bytes → walk_text walk ≡ byte ∷ bytes
   some_walk [] e = absurd (cc)
   some_walk (x ∷ walk) e = e
+
   go :
       (byte ≡ 45) ⊎ (byte ≢ 45)
       → ((walk : List Letter) × (map letter_code walk ≡ byte ∷ bytes)) ⊎
@@ -123,11 +126,13 @@ module _ (law : (digits : List ℕ) (n : ℕ) → IsNumber digits n ↔ (number 
     other n w e is = the_same n w (sym e ∙ (law digits w).0 is.number) where
       the_same : (n w : ℕ) → Some n ≡ Some w → n ≡ w
       the_same n w f = cc f
+
     below :
         (n : ℕ) → number digits ≡ Some n → (n < most_walkers) ⊎ (most_walkers ≤ n)
         → ((w : ℕ) × IsWalkerNumber digits w) ⊎ ((w : ℕ) → ¬ (IsWalkerNumber digits w))
     below n e (inl small) = inl (n, record { number = (law digits n).1 e; below = small })
     below n e (inr large) = inr (λ w is. absurd (omega (arith, large, is.below, other n w e is)))
+
     go :
         (o : Option ℕ) → number digits ≡ o
         → ((w : ℕ) × IsWalkerNumber digits w) ⊎ ((w : ℕ) → ¬ (IsWalkerNumber digits w))
@@ -150,10 +155,11 @@ module _ (law : (digits : List ℕ) (n : ℕ) → IsNumber digits n ↔ (number 
     behind c (inl w) =
         inl (record { walker = w.0; rest = c.rest; in_front = record { digits = c.front; number = w.1; text = c.split } })
     behind c (inr none) = inr (λ w rest is.
-      let same =
+        let same =
         one_split space is.digits c.front rest c.rest (walker_lacks is.digits w is.number) c.lacks
         (sym is.text ∙ c.split) in
-      none w (subst (λ (l : List ℕ). IsWalkerNumber l w) same.0 is.number))
+        none w (subst (λ (l : List ℕ). IsWalkerNumber l w) same.0 is.number))
+
     go :
         IsCut bytes ⊎ Lacks space bytes
         → IsFront bytes ⊎ ((w : ℕ) (rest : List ℕ) → ¬ (IsInFront bytes w rest))
@@ -180,6 +186,7 @@ module _ (law : (digits : List ℕ) (n : ℕ) → IsNumber digits n ↔ (number 
         → ((p : ℕ × ℕ) × AreToldBy bytes (two_walkers p.0 p.1)) ⊎ TellNothing bytes walkers
     second f (inl v) = inl ((f.walker, v.0), tells_walkers bytes f.rest f.walker v.0 f.in_front v.1)
     second f (inr none) = inr (tell_no_second bytes f.rest f.walker f.in_front none)
+
     go :
         IsFront bytes ⊎ ((w : ℕ) (rest : List ℕ) → ¬ (IsInFront bytes w rest))
         → ((p : ℕ × ℕ) × AreToldBy bytes (two_walkers p.0 p.1)) ⊎ TellNothing bytes walkers
@@ -200,6 +207,7 @@ module _ (law : (digits : List ℕ) (n : ℕ) → IsNumber digits n ↔ (number 
     second f (inl walk) =
         inl ((f.walker, walk.0), tells_walk bytes f.rest f.walker walk.0 f.in_front walk.1)
     second f (inr none) = inr (tell_no_walk bytes f.rest f.walker f.in_front none)
+
     go :
         IsFront bytes ⊎ ((w : ℕ) (rest : List ℕ) → ¬ (IsInFront bytes w rest))
         → ((p : ℕ × List Letter) × AreToldBy bytes (walker_and_walk p.0 p.1)) ⊎ TellNothing bytes

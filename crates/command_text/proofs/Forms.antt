@@ -102,13 +102,13 @@ unique line c d is also =
     let p = parts line c is in
     let q = parts line d also in
     let same =
-      one_split space (word_of c) (word_of d) p.rest q.rest (lacks_space c) (lacks_space d)
-      (sym p.text ∙ q.text) in
+    one_split space (word_of c) (word_of d) p.rest q.rest (lacks_space c) (lacks_space d)
+    (sym p.text ∙ q.text) in
     let shape =
-      sym (has_shape c) ∙ ap (λ (word : List ℕ). (form word).shape) same.0 ∙ has_shape d in
+    sym (has_shape c) ∙ ap (λ (word : List ℕ). (form word).shape) same.0 ∙ has_shape d in
     let told =
-      one_told q.rest (operands_of c) (operands_of d)
-      (subst (λ (l : List ℕ). AreToldBy l (operands_of c)) same.1 p.told) q.told shape in
+    one_told q.rest (operands_of c) (operands_of d)
+    (subst (λ (l : List ℕ). AreToldBy l (operands_of c)) same.1 p.told) q.told shape in
     ap (the_command c)
     (sym (is_made c) ∙ ap₂ (λ (word : List ℕ) (o : Operands). (form word).make o) same.0 told ∙ is_made d)
 
@@ -132,7 +132,7 @@ module _ (line word rest : List ℕ) (e : line ≡ word ++ space ∷ rest) (lack
   tells_nothing known is none = λ c spelt.
       let p = parts line c spelt in
       let same =
-        one_split space (word_of c) word p.rest rest (lacks_space c) lacks (sym p.text ∙ e) in
+      one_split space (word_of c) word p.rest rest (lacks_space c) lacks (sym p.text ∙ e) in
       none (operands_of c) (sym (has_shape c) ∙ ap (λ (l : List ℕ). (form l).shape) (same.0 ∙ is))
       (subst (λ (l : List ℕ). AreToldBy l (operands_of c)) same.1 p.told)
 
@@ -143,7 +143,7 @@ module _ (line word rest : List ℕ) (e : line ≡ word ++ space ∷ rest) (lack
   unknown not_new not_go not_at not_same = λ c spelt.
       let p = parts line c spelt in
       let same =
-        one_split space (word_of c) word p.rest rest (lacks_space c) lacks (sym p.text ∙ e) in
+      one_split space (word_of c) word p.rest rest (lacks_space c) lacks (sym p.text ∙ e) in
       no_word c (sym same.0)
     where
       no_word : (c : Command) → word ≢ word_of c

@@ -1,7 +1,7 @@
 // Lines read and printed, compared with values from outside.
 use crate::{
-    Command, LONGEST_LINE, LineFault, Reply, bad_line, cut_at, laws, read_line,
-    too_long_line, write_reply,
+    Command, LONGEST_LINE, LineFault, Reply, bad_line, cut_at, laws, read_line, too_long_line,
+    write_reply,
 };
 use cell_names::read_name;
 use std::test::Fail;

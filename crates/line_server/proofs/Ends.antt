@@ -51,9 +51,9 @@ module _ (gives takes : Bool) (old : SessionState) (left taken : List ℕ) (new 
   overrun _ (ends_unread bytes out given few session written) t e = absurd (cc)
   overrun _ (ends_over bytes more out given full some session written) t e =
       let size : length left ≡ length bytes + (length more + length left') =
-        ap length (given t)
-        ∙ length-append bytes (more ++ left')
-        ∙ ap (λ n. length bytes + n) (length-append more left') in
+      ap length (given t)
+      ∙ length-append bytes (more ++ left')
+      ∙ ap (λ n. length bytes + n) (length-append more left') in
       let far = some_length more some in
       omega (arith, size, full, far)
   overrun _ (ends_stopped stop bytes out given front written) t e = absurd (not_over stop e)

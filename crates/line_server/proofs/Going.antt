@@ -163,17 +163,17 @@ module _ (tells : Bool) (old : SessionState) (dropped bytes taken : List ℕ) wh
       → HasComeTo tells old dropped bytes taken now (length rest) lost taken''
   comes now lost front rest taken' waiting taken'' waiting'' g w none e lacks =
       let count : length bytes - length rest ≡ length front =
-        ap (λ l. length l - length rest) e
-        ∙ ap (λ n. n - length rest) (length-append front rest)
-        ∙ add-sub_cancel (length front) (length rest) in
+      ap (λ l. length l - length rest) e
+      ∙ ap (λ n. n - length rest) (length-append front rest)
+      ∙ add-sub_cancel (length front) (length rest) in
       let tail : drop (length bytes - length rest) bytes ≡ rest =
-        ap (λ n. drop n bytes) count
-        ∙ ap (λ l. drop (length front) l) e
-        ∙ drop-append_seam front rest in
+      ap (λ n. drop n bytes) count
+      ∙ ap (λ l. drop (length front) l) e
+      ∙ drop-append_seam front rest in
       let said =
-        says_same tells taken [] (g.answers ++ []) g.answers taken'' waiting''
-        (append-nil g.answers)
-        (says_then tells taken [] g.answers taken' waiting [] taken'' waiting'' g.said w) in
+      says_same tells taken [] (g.answers ++ []) g.answers taken'' waiting''
+      (append-nil g.answers)
+      (says_then tells taken [] g.answers taken' waiting [] taken'' waiting'' g.said w) in
       record {
         hidden = g.hidden;
         are_dropped = g.are_dropped;

@@ -27,7 +27,7 @@ moved buffer end rest within inside =
     let upto : from + rest ≡ end = omega (arith, within) in
     let zero : rest ≡ 0 + rest = omega arith in
     let long : rest ≤ length (drop from buffer) =
-      rw (length-drop from buffer) (omega (arith, within, inside)) in
+    rw (length-drop from buffer) (omega (arith, within, inside)) in
     let size : length (take end buffer) ≡ end = length-take end buffer ∙ omega (arith, inside) in
     ap (λ n. take rest (paste buffer 0 (drop from buffer) n)) count
     ∙ ap (λ n. take n (paste buffer 0 (drop from buffer) rest)) zero

@@ -47,8 +47,8 @@ module _ (tells : Bool) (old new : SessionState) (line taken waiting taken' wait
       → waiting'' ≡ [] → HasEnded tells old line taken new taken''
   ends taken'' waiting'' w empty =
       let said =
-        says_same tells taken [] (r.answer ++ []) r.answer taken'' waiting'' (append-nil r.answer)
-        (says_then tells taken [] r.answer taken' waiting' [] taken'' waiting'' said_at_first w) in
+      says_same tells taken [] (r.answer ++ []) r.answer taken'' waiting'' (append-nil r.answer)
+      (says_then tells taken [] r.answer taken' waiting' [] taken'' waiting'' said_at_first w) in
       record { answer = r.answer; session = r.session; written = all_said tells taken r.answer taken'' waiting'' said empty }
 
   -- or a write failed

@@ -28,8 +28,8 @@ split_once (byte ∷ line) [] rest more lacks too e =
     absurd (All-head IsNoFeed byte line lacks (ap (λ (l : List ℕ). get_or l 0 0) e))
 split_once (byte ∷ line) (b ∷ other) rest more lacks too e =
     let same =
-      split_once line other rest more (All-tail IsNoFeed byte line lacks)
-      (All-tail IsNoFeed b other too) (ap (λ (l : List ℕ). drop 1 l) e) in
+    split_once line other rest more (All-tail IsNoFeed byte line lacks)
+    (All-tail IsNoFeed b other too) (ap (λ (l : List ℕ). drop 1 l) e) in
     (ap₂ (λ (x : ℕ) (l : List ℕ). x ∷ l) (ap (λ (l : List ℕ). get_or l 0 0) e) same.0, same.1)
 
 -- What stands in front of a line feed in the bytes, up to `line`, is among the lines that the bytes are cut into.
@@ -41,8 +41,8 @@ cut_on line [] rest more whole open_end lacks e =
     absurd (lacks_none rest line more open_end (sym e))
 cut_on line (other ∷ lines) rest more whole open_end lacks e =
     let same =
-      split_once line other more (ended lines ++ rest) lacks (All-head LacksFeed other lines whole)
-      (e ∙ append_assoc other (feed ∷ ended lines) rest) in
+    split_once line other more (ended lines ++ rest) lacks (All-head LacksFeed other lines whole)
+    (e ∙ append_assoc other (feed ∷ ended lines) rest) in
     (lines, ap (λ l. l ∷ lines) (sym same.0), same.1)
 
 -- the first lines of the bytes are the first lines that they are cut into
@@ -53,13 +53,13 @@ pub cut_front :
 cut_front [] lines rest more all whole open_end e = (lines, refl, e)
 cut_front (line ∷ front) lines rest more all whole open_end e =
     let first =
-      cut_on line lines rest (ended front ++ more) whole open_end
-      (All-head LacksFeed line front all) (sym (append_assoc line (feed ∷ ended front) more) ∙ e) in
+    cut_on line lines rest (ended front ++ more) whole open_end
+    (All-head LacksFeed line front all) (sym (append_assoc line (feed ∷ ended front) more) ∙ e) in
     let others = first.0 in
     let tail : All LacksFeed others =
-      All-tail LacksFeed line others (subst (All LacksFeed) first.1 whole) in
+    All-tail LacksFeed line others (subst (All LacksFeed) first.1 whole) in
     let then =
-      cut_front front others rest more (All-tail LacksFeed line front all) tail open_end first.2 in
+    cut_front front others rest more (All-tail LacksFeed line front all) tail open_end first.2 in
     (then.0, first.1 ∙ ap (λ l. line ∷ l) then.1, then.2)
 
 -- bytes are cut into lines in one way
@@ -72,11 +72,11 @@ one_cut [] (line ∷ others) rest more whole all lacks too e =
     absurd (lacks_none rest line (ended others ++ more) lacks (e ∙ append_assoc line (feed ∷ ended others) more))
 one_cut (line ∷ lines) others rest more whole all lacks too e =
     let first =
-      cut_on line others more (ended lines ++ rest) all too (All-head LacksFeed line lines whole)
-      (sym (append_assoc line (feed ∷ ended lines) rest) ∙ e) in
+    cut_on line others more (ended lines ++ rest) all too (All-head LacksFeed line lines whole)
+    (sym (append_assoc line (feed ∷ ended lines) rest) ∙ e) in
     let tail : All LacksFeed first.0 =
-      All-tail LacksFeed line first.0 (subst (All LacksFeed) first.1 all) in
+    All-tail LacksFeed line first.0 (subst (All LacksFeed) first.1 all) in
     let then =
-      one_cut lines first.0 rest more (All-tail LacksFeed line lines whole) tail lacks too first.2
-      in
+    one_cut lines first.0 rest more (All-tail LacksFeed line lines whole) tail lacks too first.2
+    in
     (ap (λ l. line ∷ l) then.0 ∙ sym first.1, then.1)

@@ -27,8 +27,8 @@ module _ (read : List ℕ) (count fresh : ℕ) (few : fresh ≤ count) (within :
   some_more less e =
       let none : length more ≡ 0 = ap length e in
       let size : length more ≡ min (count - fresh) (length read - fresh) =
-        length-take (count - fresh) (drop fresh read)
-        ∙ ap (min (count - fresh)) (length-drop fresh read) in
+      length-take (count - fresh) (drop fresh read)
+      ∙ ap (min (count - fresh)) (length-drop fresh read) in
       absurd (omega (arith, none, size, less, within))
 
 -- a read that gives no bytes leaves none

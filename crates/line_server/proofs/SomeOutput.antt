@@ -108,15 +108,18 @@ module _ (answering : Answering) (decided : LinesAreDecided)
   some_output before bytes =
       let c = cut_into bytes in
       let lines = some_answers before c.lines in
-      let last = some_answer lines.1 c.rest c.rest in
-      (lines.0 ++ last.0, last.1, record {
-        lines = c.lines;
-        last = c.rest;
-        cut = c.cut;
-        between = lines.1;
-        whole = lines.0;
-        ending = last.0;
-        answers = lines.2;
-        answer = last.2;
-        joined = refl;
-      })
+      let last = some_answer lines.1 c.rest c.rest in (
+        lines.0 ++ last.0,
+        last.1,
+        record {
+          lines = c.lines;
+          last = c.rest;
+          cut = c.cut;
+          between = lines.1;
+          whole = lines.0;
+          ending = last.0;
+          answers = lines.2;
+          answer = last.2;
+          joined = refl;
+        },
+      )

@@ -25,9 +25,9 @@ pub outputs_agree : OfEachTree OutputsAgree
 outputs_agree kinds a k valid ok known before bytes out after =
     let agree = replies_agree kinds a k valid ok known in (
       output_again (over_walks kinds a k) (over_tree kinds a k) (λ h c x. (agree h c x).1)
-      (λ x t said. said) before bytes out after,
+          (λ x t said. said) before bytes out after,
       output_again (over_tree kinds a k) (over_walks kinds a k) (λ h c x. (agree h c x).0)
-      (λ x t said. said) before bytes out after,
+          (λ x t said. said) before bytes out after,
     )
 
 module _ (spelling : LinesSpellOne) where

@@ -23,7 +23,7 @@ returns-then-line-gt-LONGEST_LINE-clause-failed g c =
 pub returns-then-is_empty-clause-replied : goal.returns-then-is_empty-clause-replied
 returns-then-is_empty-clause-replied g c =
     let short : length c.args.line.now ≤ most_of_line =
-      omega (arith, c.if-line-gt-LONGEST_LINE.false) in
+    omega (arith, c.if-line-gt-LONGEST_LINE.false) in
     says_nothing _ _ _ _ _ _ short (no_bytes _ (grind (arith, nat_tests)))
 
 pub apply-requires : goal.apply-requires
@@ -36,7 +36,7 @@ returns-in_err-reply-in-Ok-clause-failed g c =
 pub returns-in_ok-reply-in-Ok-clause-replied : goal.returns-in_ok-reply-in-Ok-clause-replied
 returns-in_ok-reply-in-Ok-clause-replied g c =
     let short : length c.args.line.now ≤ most_of_line =
-      omega (arith, c.if-line-gt-LONGEST_LINE.false) in
+    omega (arith, c.if-line-gt-LONGEST_LINE.false) in
     on_ok c.say_reply.result
     (replies _ _ _ _ _ _ _ _ _ short c.in-Ok.ensures.spelt c.in_ok-reply-in-Ok.ensures.due_over_walks _ _ c.in_ok-reply-in-Ok.ensures.stands_over_walks c.apply.ensures.rules c.apply.ensures.kind)
     c.say_reply.ensures.said
@@ -44,7 +44,7 @@ returns-in_ok-reply-in-Ok-clause-replied g c =
 pub returns-in_ok-reply-in-Ok-clause-failed : goal.returns-in_ok-reply-in-Ok-clause-failed
 returns-in_ok-reply-in-Ok-clause-failed g c =
     let short : length c.args.line.now ≤ most_of_line =
-      omega (arith, c.if-line-gt-LONGEST_LINE.false) in
+    omega (arith, c.if-line-gt-LONGEST_LINE.false) in
     then_err c.say_reply.result
     (fails_replying _ _ c.apply.new.self _ _ _ _ _ _ short c.in-Ok.ensures.spelt c.in_ok-reply-in-Ok.ensures.due_over_walks _)
     c.say_reply.ensures.broken
@@ -52,7 +52,7 @@ returns-in_ok-reply-in-Ok-clause-failed g c =
 pub returns-in-Err-Bad-clause-replied : goal.returns-in-Err-Bad-clause-replied
 returns-in-Err-Bad-clause-replied g c =
     let short : length c.args.line.now ≤ most_of_line =
-      omega (arith, c.if-line-gt-LONGEST_LINE.false) in
+    omega (arith, c.if-line-gt-LONGEST_LINE.false) in
     let told = c.read_line.ensures.bad (c.in-Err-Bad.is ∙ ap Err c.in-Err-Bad.field-0-is) in
     let some : c.args.text.now ≢ [] = λ e. absurd (grind (arith, nat_tests)) in
     on_ok c.say-in-Err-Bad.result
@@ -62,7 +62,7 @@ returns-in-Err-Bad-clause-replied g c =
 pub returns-in-Err-Bad-clause-failed : goal.returns-in-Err-Bad-clause-failed
 returns-in-Err-Bad-clause-failed g c =
     let short : length c.args.line.now ≤ most_of_line =
-      omega (arith, c.if-line-gt-LONGEST_LINE.false) in
+    omega (arith, c.if-line-gt-LONGEST_LINE.false) in
     let told = c.read_line.ensures.bad (c.in-Err-Bad.is ∙ ap Err c.in-Err-Bad.field-0-is) in
     let some : c.args.text.now ≢ [] = λ e. absurd (grind (arith, nat_tests)) in
     then_err c.say-in-Err-Bad.result

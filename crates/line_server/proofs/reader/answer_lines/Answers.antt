@@ -30,8 +30,8 @@ loop-line-preserved g c = record {
   front = (
     c.loop-line.invariant.front.0 ++ (c.in-Some.line.now ++ feed ∷ []),
     c.loop-line.invariant.front.1
-    ∙ ap (λ l. c.loop-line.invariant.front.0 ++ l) (c.in-Some.ensures.split ∙ sym (append_assoc c.in-Some.line.now (feed ∷ []) c.in-Some.behind.now))
-    ∙ sym (append_assoc c.loop-line.invariant.front.0 (c.in-Some.line.now ++ feed ∷ []) c.in-Some.behind.now),
+        ∙ ap (λ l. c.loop-line.invariant.front.0 ++ l) (c.in-Some.ensures.split ∙ sym (append_assoc c.in-Some.line.now (feed ∷ []) c.in-Some.behind.now))
+        ∙ sym (append_assoc c.loop-line.invariant.front.0 (c.in-Some.line.now ++ feed ∷ []) c.in-Some.behind.now),
   );
   later = omega (arith, c.loop-line.invariant.later, c.in_ok-answer_end.ensures.later);
 }

@@ -22,4 +22,3 @@ returns-clause-overrun g c = ends.overrun _ _ _ _ _ _ _ _ _ c.serve_through.ensu
 
 pub returns-clause-in_order : goal.returns-clause-in_order
 returns-clause-in_order g c = ends.in_order _ _ _ _ _ _ _ _ _ c.serve_through.ensures.ends
-
