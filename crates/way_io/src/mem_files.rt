@@ -90,7 +90,8 @@ impl Files for MemFiles {
         ensures content { IfOk result (λ bytes. contents_of self.old name.now ≡ Some bytes.items) }
         ensures too_long { IsErrOf result FetchFault.TooLong
             → IsLonger (contents_of self.old) name.now limit }
-        ensures longer { (bytes : List ℕ) → contents_of self.old name.now ≡ Some bytes → limit < length bytes
+        ensures longer { (bytes : List ℕ) → contents_of self.old name.now ≡ Some bytes
+            → limit < length bytes
             → IsErrOf result FetchFault.TooLong ⊎ IsErrOf result FetchFault.Failed }
         ensures same { KeepsAll (contents_of self.old) (contents_of self.new) }
         ensures calls { calls_of self.new ≡ one_more (calls_of self.old) }
