@@ -16,6 +16,7 @@ use Rattle.rules_file.specs.Spelling.{IsTextOf, IsRulesFile}
 use Rattle.rules_file.specs.Faults.{IsFirstFault}
 use Rattle.structure_check.specs.Broken.{IsFirstBroken}
 use Rattle.walk_words.specs.Text.{walk_text}
+use Rattle.walker_cli.specs.declared.answer.Role.{Role}
 use Rattle.walker_cli.specs.declared.answer.Role.TheVariants.{Tess, Rules}
 use Rattle.walker_cli.specs.declared.answer.Answer.{Answer}
 use Rattle.walker_cli.specs.declared.answer.Answer.TheVariants.{LeadsTo, Accepted, Usage, FileTooLong, TessLine, TessKinds, RulesSyntax, RulesShape, Broken}
@@ -24,7 +25,7 @@ use Rattle.walker_cli.specs.declared.load.Refusal.TheVariants.{Answered, Failed,
 use Rattle.walker_cli.specs.Tasks.{Task, TellType, CheckRules, RunSession, Ask, HaveNoForm, tess_of, LacksKind}
 use Rattle.walker_cli.specs.Held.{Loaded, Refused, Outcome, Holds, HoldsTooMany, IsTess, IsRules, tess_limit, rules_limit, tess_too_long, tess_line, tess_kinds, tess_loaded, rules_too_long, rules_syntax, rules_shape, rules_broken, rules_loaded}
 use Rattle.walker_cli.specs.Due.{Call, IsDue, no_form, no_tess, no_kind, type_told, no_rules, rules_accepted, no_session}
-use Rattle.walker_cli.specs.Loading.{IsRefusedAs, IsOfOutside, IsDueOf}
+use Rattle.walker_cli.specs.Loading.{IsRefusedAs, IsOfOutside, IsDueOf, Fetches}
 use Rattle.walk_words.proofs.Codes.{one_walk}
 
 -- what a refusal that tells of the outside is taken for
@@ -33,10 +34,10 @@ outside_comes answer (Answered other) outside = absurd outside
 outside_comes answer (Failed role) outside = tt
 outside_comes answer Memory outside = tt
 
-pub refusal_due : (call : Call) (refusal : Refusal) → ((answer : Answer) → refusal ≡ Answered answer → IsDue call answer) → IsDueOf call (Err refusal)
-refusal_due call (Answered answer) due = due answer refl
-refusal_due call (Failed role) due = tt
-refusal_due call Memory due = tt
+pub refusal_due : (call : Call) (refusal : Refusal) → ((answer : Answer) → refusal ≡ Answered answer → IsDue call answer) → ((role : Role) → refusal ≡ Failed role → Fetches call role) → IsDueOf call (Err refusal)
+refusal_due call (Answered answer) due fetches = due answer refl
+refusal_due call (Failed role) due fetches = fetches role refl
+refusal_due call Memory due fetches = tt
 
 -- words ask for one task
 pub one_task : (words : List (List ℕ)) (task other : Task) → Ask words task → Ask words other → task ≡ other

@@ -19,8 +19,8 @@ use Rattle.walker_cli.specs.Tasks.{RunSession, HaveNoForm, AreNotOfRun}
 use Rattle.walker_cli.specs.Lines.{status_of, line_of}
 use Rattle.walker_cli.specs.Held.{tess_loaded, rules_loaded}
 use Rattle.walker_cli.specs.Due.{Call, IsDue, Serves, type_told, rules_accepted}
-use Rattle.walker_cli.specs.Loading.{IsFileFault, IsDueOrFailed}
-use Rattle.walker_cli.specs.Outcome.{Appends, IsOutside, file_failed, no_memory, write_failed, ComesExactly, Gives, TellsType, TellsAccepted}
+use Rattle.walker_cli.specs.Loading.{IsFileFault, IsDueOrFailed, Fetches}
+use Rattle.walker_cli.specs.Outcome.{Appends, IsOutside, file_failed, no_memory, write_failed, ComesExactly, Gives, GivesAtOnce, TellsType, TellsAccepted}
 use Rattle.walker_cli.specs.Serving.{OutputStands, LinesStand, RefusalStands, BeginningStands, IsOutsideOfStream, ServesSome, StreamIsAnswered, DoneIsWhole, FaultLeavesLines, RefusalIsTold, FaultLeavesBeginning, WantLeavesBeginning, ComesForLongInput}
 use Rattle.walker_cli.specs.Ending.{SaysLine, said, unsaid, unwritten, EndsStream, answered, cut_off, over_limit, broken_off, out_of_memory, IsAnswerOf, IsSessionOf, EndsCall, no_plan, with_answer, with_stream}
 
@@ -219,13 +219,13 @@ module _ (tells gives takes : Bool) (call : Call) (left left' taken taken' : Lis
       subst (λ (l : List ℕ). Gives result Done (Appends takes taken taken') l) same (given ends told (Accepted states corners) due refl)
 
   -- words in no form
-  no_form_said : HaveNoForm call.words → (answer : Answer) → answer ≡ Usage → SaysLine takes answer taken taken' result → Gives result UsageStatus (Appends takes taken taken') (line_of Usage)
+  no_form_said : HaveNoForm call.words → (answer : Answer) → answer ≡ Usage → SaysLine takes answer taken taken' result → GivesAtOnce result UsageStatus (Appends takes taken taken') (line_of Usage)
   no_form_said none answer usage (said is wrote) = inl (is ∙ ap status_of usage, λ takes_told. wrote takes_told ∙ ap (λ (a : Answer). taken ++ line_of a) usage)
-  no_form_said none answer usage (unsaid is kept) = inr (subst IsOutside (sym is) no_memory)
-  no_form_said none answer usage (unwritten is part) = inr (subst IsOutside (sym is) write_failed)
+  no_form_said none answer usage (unsaid is kept) = inr (inl is)
+  no_form_said none answer usage (unwritten is part) = inr (inr is)
 
-  pub no_form_row : EndsCall tells gives takes call left left' taken taken' result → HaveNoForm call.words → Gives result UsageStatus (Appends takes taken taken') (line_of Usage)
-  no_form_row (no_plan is kept) none = inr (subst IsOutside (sym is) no_memory)
+  pub no_form_row : EndsCall tells gives takes call left left' taken taken' result → HaveNoForm call.words → GivesAtOnce result UsageStatus (Appends takes taken taken') (line_of Usage)
+  no_form_row (no_plan is kept) none = inr (inl is)
   no_form_row (with_answer answer known formless says) none = no_form_said none answer (formless none) says
   no_form_row (with_stream kinds a k known asked ends) none = absurd (asked (λ tess n rules form. none (RunSession tess n rules) form))
 
@@ -236,6 +236,16 @@ module _ (tells gives takes : Bool) (call : Call) (left left' taken taken' : Lis
       (found.0, λ takes_told. wrote takes_told ∙ ap (λ (a : Answer). taken ++ line_of a) found.1)
   fault_said answer fault (unsaid is kept) = absurd (cc (is, fault))
   fault_said answer fault (unwritten is part) = absurd (cc (is, fault))
+
+  -- and the file is one that the call fetches
+  pub fault_due_row : EndsCall tells gives takes call left left' taken taken' result → IsTrue tells → result ≡ FileFaultStatus → (role : Role) × Fetches call role × Appends takes taken taken' (line_of (FileFault role))
+  fault_due_row (no_plan is kept) told fault = absurd (cc (is, fault))
+  fault_due_row (with_answer answer known formless (said is wrote)) told fault =
+      let found = fault_role answer (sym is ∙ fault) in
+      (found.0, subst (IsDueOrFailed call) found.1 (known told).due, λ takes_told. wrote takes_told ∙ ap (λ (a : Answer). taken ++ line_of a) found.1)
+  fault_due_row (with_answer answer known formless (unsaid is kept)) told fault = absurd (cc (is, fault))
+  fault_due_row (with_answer answer known formless (unwritten is part)) told fault = absurd (cc (is, fault))
+  fault_due_row (with_stream kinds a k known asked ends) told fault = absurd (stream_read gives takes (IsWalkReply kinds a k) left left' taken taken' result ends fault)
 
   pub fault_row : EndsCall tells gives takes call left left' taken taken' result → result ≡ FileFaultStatus → (role : Role) × Appends takes taken taken' (line_of (FileFault role))
   fault_row (no_plan is kept) fault = absurd (cc (is, fault))

@@ -7,3 +7,4 @@ pub mod Loading
 pub mod Outcome
 pub mod Serving
 pub mod Ending
+pub mod Promise

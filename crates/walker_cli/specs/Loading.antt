@@ -9,6 +9,10 @@ use Rattle.walker_cli.specs.declared.decide.Plan.{Plan}
 use Rattle.walker_cli.specs.declared.decide.Plan.TheVariants.{Say, Serve}
 use Rattle.walker_cli.specs.declared.load.Refusal.{Refusal}
 use Rattle.walker_cli.specs.declared.load.Refusal.TheVariants.{Answered, Failed, Memory}
+use Rattle.walker_cli.specs.declared.answer.Role.{Role}
+use Rattle.walker_cli.specs.declared.answer.Role.TheVariants.{Tess, Rules}
+use Rattle.walker_cli.specs.Tasks.{Task, CheckRules, RunSession, Ask}
+use Rattle.walker_cli.specs.Held.{IsTess, Loaded}
 use Rattle.walker_cli.specs.Due.{Call, IsDue, Serves}
 
 -- the refusal is this answer, or tells of the outside or of memory
@@ -43,12 +47,18 @@ abbrev pub HasKind : Plan → Type 0
 HasKind (Say answer) = ⊤
 HasKind (Serve rules k) = k < length rules.kinds
 
+-- The call fetches the file of this role: the words name it, and nothing that is tried before it refuses them.
+pub data Fetches (call : Call) : Role → Type 0 where
+  fetches_tess : (task : Task) → Ask call.words task → Fetches call Tess
+  checks : (tess rules : List ℕ) (kinds : List TileKind) → Ask call.words (CheckRules tess rules) → IsTess call.contents tess (Loaded kinds) → Fetches call Rules
+  serves_by : (tess : List ℕ) (k : ℕ) (rules : List ℕ) (kinds : List TileKind) → Ask call.words (RunSession tess k rules) → IsTess call.contents tess (Loaded kinds) → k < length kinds → Fetches call Rules
+
 -- what the steps came to is due, or tells of the outside or of memory
 abbrev pub IsDueOf : Call → Result Plan Refusal → Type 0
 IsDueOf call (Ok (Say answer)) = IsDue call answer
 IsDueOf call (Ok (Serve rules k)) = Serves call rules.kinds rules.automaton k
 IsDueOf call (Err (Answered answer)) = IsDue call answer
-IsDueOf call (Err (Failed role)) = ⊤
+IsDueOf call (Err (Failed role)) = Fetches call role
 IsDueOf call (Err Memory) = ⊤
 
 -- what the steps came to is this answer, or tells of the outside or of memory
@@ -73,7 +83,7 @@ TellsFault (Serve rules k) = ⊥
 
 -- the answer is due, or tells of a file that could not be read
 abbrev pub IsDueOrFailed : Call → Answer → Type 0
-IsDueOrFailed call (FileFault role) = ⊤
+IsDueOrFailed call (FileFault role) = Fetches call role
 IsDueOrFailed call answer = IsDue call answer
 
 -- the plan is due, or tells of a file that could not be read

@@ -36,6 +36,10 @@ pub record ComesExactly (call : Call) (result : Status) (appended : List ℕ →
 abbrev pub Gives : Status → Status → (List ℕ → Type 0) → List ℕ → Type 0
 Gives result status appended line = ((result ≡ status) × appended line) ⊎ IsOutside result
 
+-- the status with this line, unless it could not be written or there was no memory for it: no file was fetched before it
+abbrev pub GivesAtOnce : Status → Status → (List ℕ → Type 0) → List ℕ → Type 0
+GivesAtOnce result status appended line = ((result ≡ status) × appended line) ⊎ ((result ≡ Memory) ⊎ (result ≡ WriteFault))
+
 -- The words are `kind TESS K LETTERS`, the file holds a spelling of a tessellation within its limit, and K is a kind of it. The line tells the
 -- type that the walk leads to from side 0 of kind K.
 pub record TellsType (call : Call) (line : List ℕ) : Type 0 where

@@ -52,6 +52,7 @@ fn fetch<F: Files>(
 ) -> Result<Vec<u8>, Refusal>
     ensures ok { IsTrue F.tells → IfOk result (λ bytes. Holds (F.contents files.old) name.now limit bytes.items) }
     ensures within { IfOk result (λ bytes. length bytes.items ≤ limit) }
+    ensures role { (r : Role) → result ≡ Err (Refusal.Failed r) → r ≡ role }
     ensures refused { IsTrue F.tells → (answer : Answer) → result ≡ Err (Refusal.Answered answer)
         → (answer ≡ Answer.FileTooLong role) × HoldsTooMany (F.contents files.old) name.now limit }
     ensures held { IsTrue F.tells → (bytes : List ℕ) → Holds (F.contents files.old) name.now limit bytes
@@ -80,6 +81,7 @@ pub fn load_tess<F: Files>(
 ) -> Result<Tessellation, Refusal>
     ensures ok { IsTrue F.tells → IfOk result (λ t. IsTess (F.contents files.old) name.now (Loaded t)) }
     ensures valid { IfOk result IsValid }
+    ensures role { (r : Role) → result ≡ Err (Refusal.Failed r) → r ≡ Role.Tess }
     ensures refused { IsTrue F.tells → (answer : Answer) → result ≡ Err (Refusal.Answered answer) → IsTess (F.contents files.old) name.now (Refused answer) }
     ensures too_long { IsTrue F.tells → HoldsTooMany (F.contents files.old) name.now tess_limit
         → MatchResult result (λ _. ⊥) (IsRefusedAs (Answer.FileTooLong Role.Tess)) }
@@ -116,6 +118,7 @@ pub fn load_rules<F: Files>(
 ) -> Result<Rules, Refusal>
     ensures ok { IsTrue F.tells → IfOk result (λ r. IsRules (F.contents files.old) tess name.now (Loaded r.automaton)) }
     ensures kinds { IfOk result (λ r. r.kinds ≡ tess) }
+    ensures role { (r : Role) → result ≡ Err (Refusal.Failed r) → r ≡ Role.Rules }
     ensures refused { IsTrue F.tells → (answer : Answer) → result ≡ Err (Refusal.Answered answer) → IsRules (F.contents files.old) tess name.now (Refused answer) }
     ensures too_long { IsTrue F.tells → HoldsTooMany (F.contents files.old) name.now rules_limit
         → MatchResult result (λ _. ⊥) (IsRefusedAs (Answer.FileTooLong Role.Rules)) }

@@ -19,11 +19,17 @@ use std::{env, io};
 use way_io::{HostFiles, StdSink, StdSource};
 
 fn main(rt: HostRuntime) -> ExitCode {
-    // Words that are not UTF-8 are in no form, as no words are.
-    let words = words_of(rt.alloc(), &rt).unwrap_or(Vec::new(rt.alloc()));
+    let words = match words_of(rt.alloc(), &rt) {
+        Ok(words) => words,
+        Err(e) if e.kind() == io::ErrorKind::OutOfMemory => {
+            return ExitCode::from(status::Status::Memory.code());
+        }
+        // Words that are not UTF-8 are in no form, as no words are.
+        Err(_) => Vec::new(rt.alloc()),
+    };
     let mut files = HostFiles::new(&rt);
-    let mut input = StdSource::new(&rt);
-    let mut out = StdSink::new(&rt);
+    let mut input = StdSource::new(rt.reader());
+    let mut out = StdSink::new(io::writer(&rt));
     let status = run::run(
         rt.alloc(),
         words.as_slice(),

@@ -5,12 +5,15 @@ use Rattle.walker_cli.specs.declared.answer.Answer.{Answer}
 use Rattle.walker_cli.specs.Tasks.{CheckRules}
 use Rattle.walker_cli.specs.Held.{Loaded, Refused}
 use Rattle.walker_cli.specs.Due.{IsDue, no_tess, no_rules, rules_accepted}
+use Rattle.walker_cli.specs.declared.answer.Role.{Role}
+use Rattle.walker_cli.specs.Loading.{Fetches, fetches_tess, checks}
 use Rattle.walker_cli.proofs.Deciding.{refusal_due, check_row, check_unread, check_failed, check_passed, rules_kept, read_kept}
 use Rattle.walker_cli.proofs.decide.check_rules.Goals as goal
 
 pub returns-in-Err-clause-due : goal.returns-in-Err-clause-due
 returns-in-Err-clause-due g c = λ told words ask.
     refusal_due _ c.in-Err.refusal (λ answer is. no_tess (CheckRules c.args.tess.now c.args.rules.now) answer ask (c.in-Err.ensures.refused told answer (ap Err is)))
+    (λ role is. subst (λ (r : Role). Fetches (record { words = words; contents = g.F.Files.contents c.args.files.now }) r) (sym (c.in-Err.ensures.role role (ap Err is))) (fetches_tess (CheckRules c.args.tess.now c.args.rules.now) ask))
 
 pub returns-in-Err-clause-exact : goal.returns-in-Err-clause-exact
 returns-in-Err-clause-exact g c = λ told words answer ask due.
@@ -23,6 +26,7 @@ returns-in-Err-load_rules-clause-due g c = λ told words ask.
     refusal_due _ c.in-Err-load_rules.refusal (λ answer is.
     no_rules c.args.tess.now c.args.rules.now c.in-Ok.tess answer ask (c.in-Ok.ensures.ok told)
     (rules_kept (c.in-Ok.ensures.same told) c.in-Ok.tess c.args.rules.now (Refused answer) (c.in-Err-load_rules.ensures.refused told answer (ap Err is))))
+    (λ role is. subst (λ (r : Role). Fetches (record { words = words; contents = g.F.Files.contents c.args.files.now }) r) (sym (c.in-Err-load_rules.ensures.role role (ap Err is))) (checks c.args.tess.now c.args.rules.now c.in-Ok.tess ask (c.in-Ok.ensures.ok told)))
 
 pub returns-in-Err-load_rules-clause-exact : goal.returns-in-Err-load_rules-clause-exact
 returns-in-Err-load_rules-clause-exact g c = λ told words answer ask due.

@@ -1,9 +1,11 @@
-use Rattle.std.proofs.Common.{◌<◌, ◌≤◌, List, Err, Ok, length, rules, ◌∙◌, ap}
+use Rattle.std.proofs.Common.{subst, sym, ◌<◌, ◌≤◌, List, Err, Ok, length, rules, ◌∙◌, ap}
 use Rattle.tile_model.specs.Tessellations.{TileKind}
 use Rattle.structure_check.specs.Rules.{TreeRules}
 use Rattle.walker_cli.specs.Tasks.{RunSession}
 use Rattle.walker_cli.specs.Held.{Loaded, Refused}
 use Rattle.walker_cli.specs.Due.{no_tess, no_kind, no_session}
+use Rattle.walker_cli.specs.declared.answer.Role.{Role}
+use Rattle.walker_cli.specs.Loading.{Fetches, fetches_tess, serves_by}
 use Rattle.walker_cli.proofs.Deciding.{refusal_due, rules_kept, read_kept}
 use Rattle.walker_cli.proofs.Sessions.{session_row, session_unread, session_missing, session_failed, session_opened, opens, served_unread, served_missing, served_failed, served_opened, session_due}
 use Rattle.walker_cli.proofs.decide.open_session.Goals as goal
@@ -11,6 +13,7 @@ use Rattle.walker_cli.proofs.decide.open_session.Goals as goal
 pub returns-in-Err-clause-due : goal.returns-in-Err-clause-due
 returns-in-Err-clause-due g c = λ told words ask.
     refusal_due _ c.in-Err.refusal (λ answer is. no_tess (RunSession c.args.tess.now c.args.kind c.args.rules.now) answer ask (c.in-Err.ensures.refused told answer (ap Err is)))
+    (λ role is. subst (λ (r : Role). Fetches (record { words = words; contents = g.F.Files.contents c.args.files.now }) r) (sym (c.in-Err.ensures.role role (ap Err is))) (fetches_tess (RunSession c.args.tess.now c.args.kind c.args.rules.now) ask))
 
 pub returns-in-Err-clause-exact : goal.returns-in-Err-clause-exact
 returns-in-Err-clause-exact g c = λ told words answer ask due.
@@ -49,6 +52,7 @@ returns-in-Err-load_rules-clause-due g c = λ told words ask.
     refusal_due _ c.in-Err-load_rules.refusal (λ answer is.
     no_session c.args.tess.now c.args.kind c.args.rules.now c.in-Ok.tess answer ask (c.in-Ok.ensures.ok told) lt
     (rules_kept (c.in-Ok.ensures.same told) c.in-Ok.tess c.args.rules.now (Refused answer) (c.in-Err-load_rules.ensures.refused told answer (ap Err is))))
+    (λ role is. subst (λ (r : Role). Fetches (record { words = words; contents = g.F.Files.contents c.args.files.now }) r) (sym (c.in-Err-load_rules.ensures.role role (ap Err is))) (serves_by c.args.tess.now c.args.kind c.args.rules.now c.in-Ok.tess ask (c.in-Ok.ensures.ok told) lt))
 
 pub returns-in-Err-load_rules-clause-exact : goal.returns-in-Err-load_rules-clause-exact
 returns-in-Err-load_rules-clause-exact g c = λ told words answer ask due.

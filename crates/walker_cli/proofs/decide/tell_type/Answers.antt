@@ -4,12 +4,15 @@ use Rattle.tile_model.specs.Walks.{type_of}
 use Rattle.walker_cli.specs.declared.answer.Answer.TheVariants.{LeadsTo}
 use Rattle.walker_cli.specs.Tasks.{TellType}
 use Rattle.walker_cli.specs.Due.{IsDue, no_tess, no_kind, type_told}
+use Rattle.walker_cli.specs.declared.answer.Role.{Role}
+use Rattle.walker_cli.specs.Loading.{Fetches, fetches_tess}
 use Rattle.walker_cli.proofs.Deciding.{refusal_due, kind_row, kind_unread, kind_missing, kind_leads}
 use Rattle.walker_cli.proofs.decide.tell_type.Goals as goal
 
 pub returns-in-Err-clause-due : goal.returns-in-Err-clause-due
 returns-in-Err-clause-due g c = λ told words ask.
     refusal_due _ c.in-Err.refusal (λ answer is. no_tess (TellType c.args.tess.now c.args.kind c.args.walk.now) answer ask (c.in-Err.ensures.refused told answer (ap Err is)))
+    (λ role is. subst (λ (r : Role). Fetches (record { words = words; contents = g.F.Files.contents c.args.files.now }) r) (sym (c.in-Err.ensures.role role (ap Err is))) (fetches_tess (TellType c.args.tess.now c.args.kind c.args.walk.now) ask))
 
 pub returns-in-Err-clause-exact : goal.returns-in-Err-clause-exact
 returns-in-Err-clause-exact g c = λ told words answer ask due.
