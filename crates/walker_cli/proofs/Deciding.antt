@@ -19,24 +19,30 @@ use Rattle.walk_words.specs.Text.{walk_text}
 use Rattle.walker_cli.specs.declared.answer.Role.{Role}
 use Rattle.walker_cli.specs.declared.answer.Role.TheVariants.{Tess, Rules}
 use Rattle.walker_cli.specs.declared.answer.Answer.{Answer}
-use Rattle.walker_cli.specs.declared.answer.Answer.TheVariants.{LeadsTo, Accepted, Usage, FileTooLong, TessLine, TessKinds, RulesSyntax, RulesShape, Broken}
+use Rattle.walker_cli.specs.declared.answer.Answer.TheVariants.{TypeTold, Accepted, Usage, FileTooLong, TessLine, TessKinds, RulesSyntax, RulesShape}
 use Rattle.walker_cli.specs.declared.load.Refusal.{Refusal}
-use Rattle.walker_cli.specs.declared.load.Refusal.TheVariants.{Answered, Failed, Memory}
+use Rattle.walker_cli.specs.declared.answer.Saying.TheVariants.{Due, FileFault}
+use Rattle.walker_cli.specs.declared.load.Refusal.TheVariants.{Said, Memory}
 use Rattle.walker_cli.specs.Tasks.{Task, TellType, CheckRules, RunSession, Ask, HaveNoForm, tess_of, LacksKind}
-use Rattle.walker_cli.specs.Held.{Loaded, Refused, Outcome, Holds, HoldsTooMany, IsTess, IsRules, tess_limit, rules_limit, tess_too_long, tess_line, tess_kinds, tess_loaded, rules_too_long, rules_syntax, rules_shape, rules_broken, rules_loaded}
-use Rattle.walker_cli.specs.Due.{Call, IsDue, no_form, no_tess, no_kind, type_told, no_rules, rules_accepted, no_session}
-use Rattle.walker_cli.specs.Loading.{IsRefusedAs, IsOfOutside, IsDueOf, Fetches}
+use Rattle.walker_cli.specs.Held.{Loaded, Refused, Outcome, Holds, HoldsTooMany, IsTess, IsRules, tess_limit, rules_limit, broken_at, tess_too_long, tess_line, tess_kinds, tess_loaded, rules_too_long, rules_syntax, rules_shape, rules_broken, rules_loaded}
+use Rattle.walker_cli.specs.Runs.{Call}
+use Rattle.walker_cli.specs.Due.{IsDue, Fetches, no_form, no_tess, no_kind, type_told, no_rules, rules_accepted, no_session}
+use Rattle.walker_cli.specs.Loading.{IsRefusedAs, IsOfOutside, IfPlan, IsPlanDue, ServesOver}
 use Rattle.walk_words.proofs.Codes.{one_walk}
 
 -- what a refusal that tells of the outside is taken for
 pub outside_comes : (answer : Answer) (refusal : Refusal) → IsOfOutside refusal → IsRefusedAs answer refusal
-outside_comes answer (Answered other) outside = absurd outside
-outside_comes answer (Failed role) outside = tt
+outside_comes answer (Said (Due other)) outside = absurd outside
+outside_comes answer (Said (FileFault role)) outside = tt
 outside_comes answer Memory outside = tt
 
-pub refusal_due : (call : Call) (refusal : Refusal) → ((answer : Answer) → refusal ≡ Answered answer → IsDue call answer) → ((role : Role) → refusal ≡ Failed role → Fetches call role) → IsDueOf call (Err refusal)
-refusal_due call (Answered answer) due fetches = due answer refl
-refusal_due call (Failed role) due fetches = fetches role refl
+pub outside_serves : (kinds : List TileKind) (a : TreeAutomaton) (k : ℕ) (refusal : Refusal) → IsOfOutside refusal → IfPlan (Err refusal) (ServesOver kinds a k)
+outside_serves kinds a k (Said saying) outside = outside
+outside_serves kinds a k Memory outside = tt
+
+pub refusal_due : (call : Call) (refusal : Refusal) → ((answer : Answer) → refusal ≡ Said (Due answer) → IsDue call answer) → ((role : Role) → refusal ≡ Said (FileFault role) → Fetches call role) → IfPlan (Err refusal) (IsPlanDue call)
+refusal_due call (Said (Due answer)) due fetches = due answer refl
+refusal_due call (Said (FileFault role)) due fetches = fetches role refl
 refusal_due call Memory due fetches = tt
 
 -- words ask for one task
@@ -83,7 +89,7 @@ tess_comes contents file view r known (tess_loaded bytes kinds holds spelling va
 pub data KindRow (call : Call) (tess : List ℕ) (k : ℕ) (walk : List Letter) : Answer → Type 0 where
   kind_refused : (answer : Answer) → IsTess call.contents tess (Refused answer) → KindRow call tess k walk answer
   kind_lacking : (kinds : List TileKind) → IsTess call.contents tess (Loaded kinds) → length kinds ≤ k → KindRow call tess k walk Usage
-  kind_told : (kinds : List TileKind) → IsTess call.contents tess (Loaded kinds) → k < length kinds → KindRow call tess k walk (LeadsTo (type_of kinds (k, 0) walk))
+  kind_told : (kinds : List TileKind) → IsTess call.contents tess (Loaded kinds) → k < length kinds → KindRow call tess k walk (TypeTold (type_of kinds (k, 0) walk))
 
 pub kind_row : (call : Call) (tess : List ℕ) (k : ℕ) (walk : List Letter) → Ask call.words (TellType tess k walk) → {answer : Answer} → IsDue call answer → KindRow call tess k walk answer
 kind_row call tess k walk ask (no_form none) = absurd (none (TellType tess k walk) ask)
@@ -98,7 +104,7 @@ kind_row call tess k walk ask (type_told tess' k' walk' kinds other is lt) =
     let same_tess : tess' ≡ tess = cc same in
     let same_kind : k' ≡ k = cc same in
     let same_walk : walk' ≡ walk = cc same in
-    subst (λ (a : Answer). KindRow call tess k walk a) (λ i. LeadsTo (type_of kinds (sym same_kind i, 0) (sym same_walk i)))
+    subst (λ (a : Answer). KindRow call tess k walk a) (λ i. TypeTold (type_of kinds (sym same_kind i, 0) (sym same_walk i)))
     (kind_told kinds (subst (λ (f : List ℕ). IsTess call.contents f (Loaded kinds)) same_tess is) (subst (λ (n : ℕ). n < length kinds) same_kind lt))
 kind_row call tess k walk ask (no_rules tess' rules kinds answer other is refused) = absurd (cc (one_task call.words (CheckRules tess' rules) (TellType tess k walk) other ask))
 kind_row call tess k walk ask (rules_accepted tess' rules kinds a other is loaded) = absurd (cc (one_task call.words (CheckRules tess' rules) (TellType tess k walk) other ask))
@@ -108,7 +114,7 @@ kind_row call tess k walk ask (no_session tess' k' rules kinds answer other is l
 pub kind_unread : {T : Type 0} (call : Call) (tess : List ℕ) (k : ℕ) (walk : List Letter) (view : T → List TileKind) (refusal : Refusal) → TessRead {T = T} call.contents tess view (Err refusal) → {answer : Answer} → KindRow call tess k walk answer → IsRefusedAs answer refusal
 kind_unread call tess k walk view refusal known (kind_refused answer is) = tess_comes call.contents tess view (Err refusal) known is
 kind_unread call tess k walk view refusal known (kind_lacking kinds is lacks) = outside_comes Usage refusal (tess_comes call.contents tess view (Err refusal) known is)
-kind_unread call tess k walk view refusal known (kind_told kinds is lt) = outside_comes (LeadsTo (type_of kinds (k, 0) walk)) refusal (tess_comes call.contents tess view (Err refusal) known is)
+kind_unread call tess k walk view refusal known (kind_told kinds is lt) = outside_comes (TypeTold (type_of kinds (k, 0) walk)) refusal (tess_comes call.contents tess view (Err refusal) known is)
 
 pub kind_missing : {T : Type 0} (call : Call) (tess : List ℕ) (k : ℕ) (walk : List Letter) (view : T → List TileKind) (t : T) → TessRead call.contents tess view (Ok t) → length (view t) ≤ k → {answer : Answer} → KindRow call tess k walk answer → Usage ≡ answer
 kind_missing call tess k walk view t known few (kind_refused answer is) = absurd (tess_comes call.contents tess view (Ok t) known is)
@@ -117,21 +123,21 @@ kind_missing call tess k walk view t known few (kind_told kinds is lt) =
     let same : view t ≡ kinds = tess_comes call.contents tess view (Ok t) known is in
     absurd (omega (arith, ap length same, few, lt))
 
-pub kind_leads : {T : Type 0} (call : Call) (tess : List ℕ) (k : ℕ) (walk : List Letter) (view : T → List TileKind) (t : T) → TessRead call.contents tess view (Ok t) → k < length (view t) → {answer : Answer} → KindRow call tess k walk answer → LeadsTo (type_of (view t) (k, 0) walk) ≡ answer
+pub kind_leads : {T : Type 0} (call : Call) (tess : List ℕ) (k : ℕ) (walk : List Letter) (view : T → List TileKind) (t : T) → TessRead call.contents tess view (Ok t) → k < length (view t) → {answer : Answer} → KindRow call tess k walk answer → TypeTold (type_of (view t) (k, 0) walk) ≡ answer
 kind_leads call tess k walk view t known lt (kind_refused answer is) = absurd (tess_comes call.contents tess view (Ok t) known is)
 kind_leads call tess k walk view t known lt (kind_lacking kinds is lacks) =
     let same : view t ≡ kinds = tess_comes call.contents tess view (Ok t) known is in
     absurd (omega (arith, ap length same, lacks, lt))
 kind_leads call tess k walk view t known lt (kind_told kinds is few) =
     let same : view t ≡ kinds = tess_comes call.contents tess view (Ok t) known is in
-    λ i. LeadsTo (type_of (same i) (k, 0) walk)
+    λ i. TypeTold (type_of (same i) (k, 0) walk)
 
 -- what is known of the rules that are read from a file, or of the refusal
 pub record RulesRead {T : Type 0} (contents : List ℕ → Option (List ℕ)) (kinds : List TileKind) (file : List ℕ) (view : T → TreeAutomaton) (r : Result T Refusal) : Type 0 where
   pub too_long : HoldsTooMany contents file rules_limit → MatchResult r (λ _. ⊥) (IsRefusedAs (FileTooLong Rules))
   pub no_text : (bytes : List ℕ) → Holds contents file rules_limit bytes → ((d : Data) → ¬ (IsTextOf bytes d)) → MatchResult r (λ _. ⊥) (IsRefusedAs RulesSyntax)
   pub misshapen : (bytes : List ℕ) (d : Data) (part : Part) (i : ℕ) → Holds contents file rules_limit bytes → IsTextOf bytes d → IsFirstFault d part i → MatchResult r (λ _. ⊥) (IsRefusedAs (RulesShape part i))
-  pub broken : (bytes : List ℕ) (a : TreeAutomaton) (n first second : ℕ) → Holds contents file rules_limit bytes → IsRulesFile bytes a → IsFirstBroken kinds a n first second → MatchResult r (λ _. ⊥) (IsRefusedAs (Broken (record { condition = n; first = first; second = second })))
+  pub broken : (bytes : List ℕ) (a : TreeAutomaton) (n first second : ℕ) → Holds contents file rules_limit bytes → IsRulesFile bytes a → IsFirstBroken kinds a n first second → MatchResult r (λ _. ⊥) (IsRefusedAs (broken_at n first second))
   pub loaded : (bytes : List ℕ) (a : TreeAutomaton) → Holds contents file rules_limit bytes → IsRulesFile bytes a → IsAccepted kinds a → MatchResult r (λ t. view t ≡ a) IsOfOutside
 
 abbrev pub RulesCome : {T : Type 0} → (T → TreeAutomaton) → Result T Refusal → Outcome TreeAutomaton → Type 0

@@ -4,7 +4,10 @@ pub mod Reading
 pub mod Deciding
 pub mod Sessions
 pub mod Settling
-pub mod Ending
+pub mod Classes
+pub mod TableRows
+pub mod StreamRows
+pub mod Promised
 pub mod Streams
 pub mod Plans
 pub mod OverTree

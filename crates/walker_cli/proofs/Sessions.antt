@@ -12,7 +12,8 @@ use Rattle.walker_cli.specs.declared.answer.Answer.TheVariants.{Usage}
 use Rattle.walker_cli.specs.declared.load.Refusal.{Refusal}
 use Rattle.walker_cli.specs.Tasks.{Task, TellType, CheckRules, RunSession, Ask, tess_of, LacksKind}
 use Rattle.walker_cli.specs.Held.{Loaded, Refused, Outcome, Holds, IsTess, IsRules, tess_limit, rules_limit, tess_too_long, tess_line, tess_kinds, tess_loaded, rules_too_long, rules_syntax, rules_shape, rules_broken, rules_loaded}
-use Rattle.walker_cli.specs.Due.{Call, IsDue, Serves, no_form, no_tess, no_kind, type_told, no_rules, rules_accepted, no_session}
+use Rattle.walker_cli.specs.Runs.{Call}
+use Rattle.walker_cli.specs.Due.{IsDue, Serves, no_form, no_tess, no_kind, type_told, no_rules, rules_accepted, no_session}
 use Rattle.walker_cli.specs.Loading.{IsRefusedAs, IsOfOutside}
 use Rattle.walker_cli.proofs.Deciding.{one_task, outside_comes, TessRead, RulesRead, tess_comes, rules_come}
 

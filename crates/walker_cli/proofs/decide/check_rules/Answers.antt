@@ -6,7 +6,7 @@ use Rattle.walker_cli.specs.Tasks.{CheckRules}
 use Rattle.walker_cli.specs.Held.{Loaded, Refused}
 use Rattle.walker_cli.specs.Due.{IsDue, no_tess, no_rules, rules_accepted}
 use Rattle.walker_cli.specs.declared.answer.Role.{Role}
-use Rattle.walker_cli.specs.Loading.{Fetches, fetches_tess, checks}
+use Rattle.walker_cli.specs.Due.{Fetches, fetches_tess, checks}
 use Rattle.walker_cli.proofs.Deciding.{refusal_due, check_row, check_unread, check_failed, check_passed, rules_kept, read_kept}
 use Rattle.walker_cli.proofs.decide.check_rules.Goals as goal
 

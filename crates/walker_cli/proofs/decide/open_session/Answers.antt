@@ -5,8 +5,8 @@ use Rattle.walker_cli.specs.Tasks.{RunSession}
 use Rattle.walker_cli.specs.Held.{Loaded, Refused}
 use Rattle.walker_cli.specs.Due.{no_tess, no_kind, no_session}
 use Rattle.walker_cli.specs.declared.answer.Role.{Role}
-use Rattle.walker_cli.specs.Loading.{Fetches, fetches_tess, serves_by}
-use Rattle.walker_cli.proofs.Deciding.{refusal_due, rules_kept, read_kept}
+use Rattle.walker_cli.specs.Due.{Fetches, fetches_tess, serves_by}
+use Rattle.walker_cli.proofs.Deciding.{outside_serves, refusal_due, rules_kept, read_kept}
 use Rattle.walker_cli.proofs.Sessions.{session_row, session_unread, session_missing, session_failed, session_opened, opens, served_unread, served_missing, served_failed, served_opened, session_due}
 use Rattle.walker_cli.proofs.decide.open_session.Goals as goal
 
@@ -23,9 +23,10 @@ returns-in-Err-clause-exact g c = λ told words answer ask due.
 
 pub returns-in-Err-clause-serves : goal.returns-in-Err-clause-serves
 returns-in-Err-clause-serves g c = λ told words kinds a k ask serves.
-    served_unread {T = List TileKind} _ c.args.tess.now c.args.kind c.args.rules.now kinds a k (λ t. t) c.in-Err.refusal
+    outside_serves kinds a k c.in-Err.refusal
+    (served_unread {T = List TileKind} _ c.args.tess.now c.args.kind c.args.rules.now kinds a k (λ t. t) c.in-Err.refusal
     (record { too_long = c.in-Err.ensures.too_long told; bad_line = c.in-Err.ensures.bad_line told; bad_kinds = c.in-Err.ensures.bad_kinds told; loaded = c.in-Err.ensures.loaded told })
-    (opens _ c.args.tess.now c.args.kind c.args.rules.now kinds a k ask serves)
+    (opens _ c.args.tess.now c.args.kind c.args.rules.now kinds a k ask serves))
 
 pub returns-then-kind-from-clause-due : goal.returns-then-kind-from-clause-due
 returns-then-kind-from-clause-due g c = λ told words ask.
@@ -65,11 +66,11 @@ returns-in-Err-load_rules-clause-exact g c = λ told words answer ask due.
 
 pub returns-in-Err-load_rules-clause-serves : goal.returns-in-Err-load_rules-clause-serves
 returns-in-Err-load_rules-clause-serves g c = λ told words kinds a k ask serves.
-    served_failed _ c.args.tess.now c.args.kind c.args.rules.now kinds a k (λ (t : List TileKind). t) c.in-Ok.tess (λ (r : TreeRules). r.automaton) c.in-Err-load_rules.refusal
+    outside_serves kinds a k c.in-Err-load_rules.refusal (served_failed _ c.args.tess.now c.args.kind c.args.rules.now kinds a k (λ (t : List TileKind). t) c.in-Ok.tess (λ (r : TreeRules). r.automaton) c.in-Err-load_rules.refusal
     (record { too_long = c.in-Ok.ensures.too_long told; bad_line = c.in-Ok.ensures.bad_line told; bad_kinds = c.in-Ok.ensures.bad_kinds told; loaded = c.in-Ok.ensures.loaded told })
     (read_kept (c.in-Ok.ensures.same told) c.in-Ok.tess c.args.rules.now (λ (r : TreeRules). r.automaton) (Err c.in-Err-load_rules.refusal)
     (record { too_long = c.in-Err-load_rules.ensures.too_long told; no_text = c.in-Err-load_rules.ensures.no_text told; misshapen = c.in-Err-load_rules.ensures.misshapen told; broken = c.in-Err-load_rules.ensures.broken told; loaded = c.in-Err-load_rules.ensures.loaded told }))
-    (opens _ c.args.tess.now c.args.kind c.args.rules.now kinds a k ask serves)
+    (opens _ c.args.tess.now c.args.kind c.args.rules.now kinds a k ask serves))
 
 pub returns-in-Ok-load_rules-clause-due : goal.returns-in-Ok-load_rules-clause-due
 returns-in-Ok-load_rules-clause-due g c = λ told words ask.

@@ -1,11 +1,11 @@
 use Rattle.std.proofs.Common.{◌≡◌, ℕ, ◌<◌, ◌≤◌, List, Err, length, rules, sym, ◌∙◌, ap, subst}
 use Rattle.tile_model.specs.Tessellations.{TileKind}
 use Rattle.tile_model.specs.Walks.{type_of}
-use Rattle.walker_cli.specs.declared.answer.Answer.TheVariants.{LeadsTo}
+use Rattle.walker_cli.specs.declared.answer.Answer.TheVariants.{TypeTold}
 use Rattle.walker_cli.specs.Tasks.{TellType}
 use Rattle.walker_cli.specs.Due.{IsDue, no_tess, no_kind, type_told}
 use Rattle.walker_cli.specs.declared.answer.Role.{Role}
-use Rattle.walker_cli.specs.Loading.{Fetches, fetches_tess}
+use Rattle.walker_cli.specs.Due.{Fetches, fetches_tess}
 use Rattle.walker_cli.proofs.Deciding.{refusal_due, kind_row, kind_unread, kind_missing, kind_leads}
 use Rattle.walker_cli.proofs.decide.tell_type.Goals as goal
 
@@ -36,13 +36,13 @@ pub returns-clause-due : goal.returns-clause-due
 returns-clause-due g c = λ told words ask.
     let lt : c.args.kind < length c.in-Ok.tess = search rules in
     let leads : type_of c.in-Ok.tess (c.args.kind, 0) c.args.walk.now ≡ c.type_of.result = sym (c.type_of.ensures.value ∙ ap (λ (d : ℕ × ℕ). type_of c.in-Ok.tess d c.args.walk.now) c.start-start.ensures.value) in
-    subst (λ (d : ℕ × ℕ). IsDue (record { words = words; contents = g.F.Files.contents c.args.files.now }) (LeadsTo d)) leads
+    subst (λ (d : ℕ × ℕ). IsDue (record { words = words; contents = g.F.Files.contents c.args.files.now }) (TypeTold d)) leads
     (type_told c.args.tess.now c.args.kind c.args.walk.now c.in-Ok.tess ask (c.in-Ok.ensures.ok told) lt)
 
 pub returns-clause-exact : goal.returns-clause-exact
 returns-clause-exact g c = λ told words answer ask due.
     let lt : c.args.kind < length c.in-Ok.tess = search rules in
     let leads : type_of c.in-Ok.tess (c.args.kind, 0) c.args.walk.now ≡ c.type_of.result = sym (c.type_of.ensures.value ∙ ap (λ (d : ℕ × ℕ). type_of c.in-Ok.tess d c.args.walk.now) c.start-start.ensures.value) in
-    ap LeadsTo (sym leads) ∙ kind_leads _ c.args.tess.now c.args.kind c.args.walk.now (λ (t : List TileKind). t) c.in-Ok.tess
+    ap TypeTold (sym leads) ∙ kind_leads _ c.args.tess.now c.args.kind c.args.walk.now (λ (t : List TileKind). t) c.in-Ok.tess
     (record { too_long = c.in-Ok.ensures.too_long told; bad_line = c.in-Ok.ensures.bad_line told; bad_kinds = c.in-Ok.ensures.bad_kinds told; loaded = c.in-Ok.ensures.loaded told })
     lt (kind_row _ c.args.tess.now c.args.kind c.args.walk.now ask due)

@@ -7,13 +7,14 @@ use Rattle.structure_check.specs.Broken.{IsFirstBroken}
 use Rattle.structure_check.proofs.First.{refutes}
 use Rattle.walker_cli.specs.declared.answer.Answer.{Answer}
 use Rattle.walker_cli.specs.declared.answer.Answer.TheVariants.{Broken}
-use Rattle.walker_cli.specs.declared.load.Refusal.TheVariants.{Answered}
+use Rattle.walker_cli.specs.declared.answer.Saying.TheVariants.{Due}
+use Rattle.walker_cli.specs.declared.load.Refusal.TheVariants.{Said}
 use Rattle.walker_cli.specs.Held.{Refused, Loaded, IsRules, rules_too_long, rules_syntax, rules_shape, rules_broken, rules_loaded}
 use Rattle.walker_cli.proofs.load.load_rules.Goals as goal
 
 pub returns-in-Err-clause-refused : goal.returns-in-Err-clause-refused
 returns-in-Err-clause-refused g c = λ told answer is.
-    let refusal : c.in-Err.refusal ≡ Answered answer = cc is in
+    let refusal : c.in-Err.refusal ≡ Said (Due answer) = cc is in
     let long = c.in-Err.ensures.refused told answer (ap Err refusal) in
     subst (λ (a : Answer). IsRules (g.F.Files.contents c.args.files.now) c.args.tess c.args.name.now (Refused a)) (sym long.0) (rules_too_long long.1)
 
