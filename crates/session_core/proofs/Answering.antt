@@ -8,7 +8,7 @@ use Rattle.tree_model.specs.Automata.{TreeAutomaton, state_at}
 use Rattle.tree_model.specs.Conditions.{IsAccepted}
 use Rattle.tree_model.specs.Names.{state_of}
 use Rattle.tree_model.specs.Positions.{Position, root}
-use Rattle.turn_rules.proofs.Walking.{leads_same}
+use Rattle.tree_laws.proofs.Walking.{leads_same}
 use Rattle.reply_model.specs.declared.Command.{Command}
 use Rattle.reply_model.specs.declared.Reply.{Reply}
 use Rattle.reply_model.specs.declared.Reply.TheVariants.{At as AtPlace}

@@ -8,10 +8,10 @@ use Rattle.tree_model.specs.Automata.{TreeAutomaton, type_at}
 use Rattle.tree_model.specs.Conditions.{IsAccepted}
 use Rattle.tree_model.specs.Positions.{Position, IsPosition, type_of_side}
 use Rattle.structure_check.specs.Rules.{AreSound}
-use Rattle.turn_rules.specs.Laws.{HasOnePlace}
+use Rattle.tree_laws.specs.Laws.{HasOnePlace}
 use Rattle.turn_rules.specs.Spots.{position}
-use Rattle.turn_rules.proofs.Words.{word_type}
-use Rattle.turn_rules.proofs.Together.{walks_one_place, names_tell}
+use Rattle.tree_laws.proofs.Words.{word_type}
+use Rattle.tree_laws.proofs.Together.{walks_one_place, names_tell}
 use Rattle.reply_model.specs.declared.Command.{Command}
 use Rattle.reply_model.specs.declared.Reply.{Reply}
 use Rattle.reply_model.specs.Histories.{walk_of}

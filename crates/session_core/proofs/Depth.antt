@@ -10,7 +10,7 @@ use Rattle.tree_model.specs.Conditions.{IsAccepted}
 use Rattle.tree_model.specs.Positions.{Position, root, Moves, Leads}
 use Rattle.structure_check.specs.Rules.{TreeRules}
 use Rattle.turn_rules.specs.Spots.{TreeSpot, IsSpot, position, root_kind}
-use Rattle.turn_rules.proofs.Walking.{leads_append, leads_split, leads_same}
+use Rattle.tree_laws.proofs.Walking.{leads_append, leads_split, leads_same}
 use Rattle.step_engine.specs.Crossings.{WalksDeep, LeadsTo}
 use Rattle.reply_model.specs.Readings.{deepest, LeadsDeep}
 use Rattle.reply_model.specs.Replies.{GoesDeep}

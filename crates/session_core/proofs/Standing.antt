@@ -8,7 +8,7 @@ use Rattle.tree_model.specs.Names.{state_of}
 use Rattle.tree_model.specs.Positions.{Position, root, Leads}
 use Rattle.structure_check.specs.Rules.{AreSound}
 use Rattle.turn_rules.specs.Spots.{TreeSpot, position, tile_state}
-use Rattle.turn_rules.proofs.Walking.{leads_append, leads_same}
+use Rattle.tree_laws.proofs.Walking.{leads_append, leads_same}
 use Rattle.reply_model.specs.declared.Command.{Command}
 use Rattle.reply_model.specs.declared.Command.TheVariants.{New, Go, At, Same}
 use Rattle.reply_model.specs.declared.Reply.{Reply}

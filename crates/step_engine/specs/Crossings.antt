@@ -1,4 +1,5 @@
--- What lies across the faced side of a spot, where walks lead from it, of which walks it is the place, and which crossings arrive too deep.
+-- What lies across the faced side of a spot, where walks lead from it, of which walks it is the place,
+-- and which crossings arrive too deep.
 use Rattle.std.specs.Prelude.{◌≡◌, ℕ, ◌<◌, List, [], ◌∷◌, ◌++◌, length}
 use Rattle.tile_model.specs.declared.Letter.{Letter}
 use Rattle.tile_model.specs.declared.Letter.TheVariants.{X}
@@ -12,12 +13,14 @@ abbrev pub IsAcross : TreeRules → TreeSpot → Position → Type 0
 IsAcross rules s q = LiesAcross rules.kinds rules.automaton (root_kind rules s) (position s) q
 
 -- The walk leads from the spot to position q.
-abbrev pub LeadsTo : TreeRules → TreeSpot → List Letter → Position → Type 0
-LeadsTo rules s walk q = Leads rules.kinds rules.automaton (root_kind rules s) (position s) walk q
+abbrev pub WalkLeadsTo : TreeRules → TreeSpot → List Letter → Position → Type 0
+WalkLeadsTo rules s walk q =
+    Leads rules.kinds rules.automaton (root_kind rules s) (position s) walk q
 
 -- The spot stands after the walk from side 0 of its root: its position is a place of the walk.
 abbrev pub StandsAfter : TreeRules → TreeSpot → List Letter → Type 0
-StandsAfter rules s walk = IsPlace rules.kinds rules.automaton (root_kind rules s) walk (position s)
+StandsAfter rules s walk =
+    IsPlace rules.kinds rules.automaton (root_kind rules s) walk (position s)
 
 -- In the tree of kind k, what lies across position p has a name of more than `most` sides.
 pub record IsDeepAcross (rules : TreeRules) (k : ℕ) (p : Position) (most : ℕ) : Type 0 where
@@ -34,5 +37,5 @@ pub record WalksDeep (rules : TreeRules) (s : TreeSpot) (walk : List Letter) (mo
   pub behind : List Letter
   pub split : walk ≡ before ++ X ∷ behind
   pub there : Position
-  pub leads : LeadsTo rules s (before ++ X ∷ []) there
+  pub leads : WalkLeadsTo rules s (before ++ X ∷ []) there
   pub deep : most < length there.name

@@ -2,8 +2,9 @@
 //! kind, at any distance.
 
 ghost use Rattle.std.specs.Prelude.{◌<◌, length};
-ghost use Rattle.turn_rules.specs.Laws.{WalksHaveOnePlace, PlacesTellRelated, NamesTellTiles};
+ghost use Rattle.tree_laws.specs.Laws.{WalksHaveOnePlace, PlacesTellRelated, NamesTellTiles};
 
+use crate::tile::accepted;
 use structure_check::Rules;
 
 /// Each walk has exactly one place, the position that its turns and crossings reach. Two walks have one place exactly where they are
@@ -14,5 +15,5 @@ pub fn one_place(r: &Rules, kind: u8)
     ensures related { PlacesTellRelated r.now.kinds r.now.automaton kind }
     ensures tiles { NamesTellTiles r.now.kinds r.now.automaton kind }
 {
-    let _automaton = r.automaton();
+    accepted(r);
 }
