@@ -4,6 +4,7 @@ ghost use Rattle.std.specs.Cmp.{partial_equiv_from_equiv};
 ghost use Rattle.std.specs.Cmp.Lexicographic.{pointwise, slice_cmp, nat_list_eq_equiv, nat_list_cmp_total, texts_ties, texts_po};
 ghost use Rattle.std.specs.Hash as fed;
 ghost use Rattle.std.specs.Ordering.{nat_cmp};
+ghost use Rattle.tree_model.specs.Names.{IsBefore};
 ghost use Rattle.cell_names.specs.Name.{IsName};
 
 use smallvec::SmallVec;
@@ -150,7 +151,10 @@ impl Ord for Name {
 
     ghost matches_eq = { texts_ties };
 
-    fn cmp(&self, other: &Name) -> Ordering {
+    fn cmp(&self, other: &Name) -> Ordering
+        ensures value { result ≡ slice_cmp nat_cmp self.now other.now }
+        ensures before { (result ≡ Ordering.Less) ↔ IsBefore self.now other.now }
+    {
         self.sides().cmp(other.sides())
     }
 }

@@ -12,12 +12,13 @@ use Rattle.structure_check.specs.Rules.{TreeRules}
 use Rattle.turn_rules.specs.Spots.{TreeSpot, IsSpot, position, root_kind}
 use Rattle.tree_laws.proofs.Walking.{leads_append, leads_split, leads_same}
 use Rattle.step_engine.specs.Crossings.{WalksDeep, LeadsTo}
-use Rattle.reply_model.specs.Readings.{deepest, LeadsDeep}
-use Rattle.reply_model.specs.Replies.{GoesDeep}
-use Rattle.reply_model.specs.Histories.{walk_of}
+use Rattle.tree_model.specs.Limits.{deepest}
+use Rattle.reply_model.specs.Histories.{History, walk_of}
+use Rattle.reply_model.specs.Replies.{PassesFar}
+use Rattle.reply_model.specs.TreeReadings.{tree_reading}
+use Rattle.reply_laws.proofs.Depths.{far_from_deep, deep_from_far}
 use Rattle.session_core.specs.Sessions.{SessionState, IsWalker}
 use Rattle.session_core.proofs.Steps.{HasGone}
-use Rattle.session_core.proofs.Events.{Event}
 
 module _ (kinds : List TileKind) (a : TreeAutomaton) (k : ℕ) where
   -- some crossing on the walk from position p arrives at a name that is too long
@@ -58,21 +59,22 @@ module _ (rules : TreeRules) (k : ℕ) (s : TreeSpot) (walker : IsWalker rules k
       }
 
   -- behind a walk that leads to the spot
-  pub goes_deep : (h : List Event) (w : ℕ) (u : List Letter) → Leads rules.kinds rules.automaton k root (walk_of h w) (position s) → WalksDeep rules s u deepest → GoesDeep (LeadsDeep rules.kinds rules.automaton k) h w u
+  pub goes_deep : (h : History) (w : ℕ) (u : List Letter) → Leads rules.kinds rules.automaton k root (walk_of h w) (position s) → WalksDeep rules s u deepest → PassesFar (tree_reading rules.kinds rules.automaton k) [] (walk_of h w) u
   goes_deep h w u l d =
       let on = subst (λ j. Leads rules.kinds rules.automaton j (position s) (d.before ++ X ∷ []) d.there) walker.tree d.leads in
       record {
         prefix = d.before ++ X ∷ [];
         rest = d.behind;
         split = d.split ∙ sym (append_assoc d.before (X ∷ []) d.behind);
-        deep = record { place = d.there; led = leads_append rules.kinds rules.automaton k (walk_of h w) (d.before ++ X ∷ []) root (position s) d.there l on; deep = d.deep };
+        far = far_from_deep rules.kinds rules.automaton k (walk_of h w ++ (d.before ++ X ∷ [])) (record { place = d.there; led = leads_append rules.kinds rules.automaton k (walk_of h w) (d.before ++ X ∷ []) root (position s) d.there l on; deep = d.deep });
       }
 
-  pub deep_goes : IsValid rules.kinds → IsAccepted rules.kinds rules.automaton → k < length rules.kinds → (h : List Event) (w : ℕ) (u : List Letter) → Leads rules.kinds rules.automaton k root (walk_of h w) (position s) → GoesDeep (LeadsDeep rules.kinds rules.automaton k) h w u → WalksDeep rules s u deepest
+  pub deep_goes : IsValid rules.kinds → IsAccepted rules.kinds rules.automaton → k < length rules.kinds → (h : History) (w : ℕ) (u : List Letter) → Leads rules.kinds rules.automaton k root (walk_of h w) (position s) → PassesFar (tree_reading rules.kinds rules.automaton k) [] (walk_of h w) u → WalksDeep rules s u deepest
   deep_goes valid ok known h w u l d =
-      let (m, l1, l2) = leads_split rules.kinds rules.automaton k (walk_of h w) d.prefix root d.deep.place d.deep.led in
-      let e : m ≡ position s = leads_same rules.kinds rules.automaton k valid ok known (walk_of h w) root m (position s) l1 l in
-      walks_deep d.prefix d.rest u d.deep.place d.split (subst (λ n. Leads rules.kinds rules.automaton k n d.prefix d.deep.place) e l2) d.deep.deep
+      let e = deep_from_far rules.kinds rules.automaton k (walk_of h w ++ d.prefix) d.far in
+      let (m, l1, l2) = leads_split rules.kinds rules.automaton k (walk_of h w) d.prefix root e.place e.led in
+      let same : m ≡ position s = leads_same rules.kinds rules.automaton k valid ok known (walk_of h w) root m (position s) l1 l in
+      walks_deep d.prefix d.rest u e.place d.split (subst (λ n. Leads rules.kinds rules.automaton k n d.prefix e.place) same l2) e.deep
 
 -- the spot to which a walk has led that did not lead too deep
 pub has_gone : (session : SessionState) (s t : TreeSpot) (u : List Letter) → IsWalker session.rules session.kind s → IsSpot session.rules t → root_kind session.rules t ≡ root_kind session.rules s → LeadsTo session.rules s u (position t) → (WalksDeep session.rules s u deepest → ⊥) → HasGone session s t u

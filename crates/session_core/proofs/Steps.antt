@@ -2,6 +2,7 @@
 use Rattle.std.specs.Prelude.{◌≡◌, ◌≢◌, ℕ, ◌⊎◌, List, slice_set, None, Some, IsSome}
 use Rattle.tile_model.specs.declared.Letter.{Letter}
 use Rattle.tree_model.specs.Automata.{state_at}
+use Rattle.tree_model.specs.Limits.{deepest}
 use Rattle.tree_model.specs.Positions.{root}
 use Rattle.turn_rules.specs.Spots.{TreeSpot, IsAt, position, tile_state}
 use Rattle.step_engine.specs.Crossings.{LeadsTo, WalksDeep}
@@ -9,7 +10,6 @@ use Rattle.reply_model.specs.declared.Command.{Command}
 use Rattle.reply_model.specs.declared.Command.TheVariants.{New, Go, At, Same}
 use Rattle.reply_model.specs.declared.Reply.{Reply}
 use Rattle.reply_model.specs.declared.Reply.TheVariants.{Done, At as AtPlace, Yes, No, NoWalker, Taken, Deep}
-use Rattle.reply_model.specs.Readings.{deepest}
 use Rattle.session_core.specs.Sessions.{SessionState, walker_at, IsWalker}
 
 -- the session with walker w at spot s, and all others as they are

@@ -5,7 +5,7 @@ use Rattle.tree_model.specs.declared.Rule.TheVariants.{Child}
 use Rattle.tree_model.specs.declared.Claim.{Claim}
 use Rattle.tree_model.specs.Automata.{TreeAutomaton, side_count, rule_at, claim_at, corner_valence}
 use Rattle.tree_model.specs.Conditions.{AtEverySide, AtEveryCorner, HasLimits, HasOffsets, HasOuter, HasTables, HasParentRule, HasChildType, HasClaimValence, HasFirstPlace, HasLastPlace, HasOuterBefore, HasOuterBehind, KeepsClaims, HasOneChange, HasSmallChange, HasGreaterOuter}
-use Rattle.structure_check.specs.Broken.{IsPlace, Holds, PartHolds, part_size}
+use Rattle.structure_check.specs.Broken.{IsReadAt, Holds, PartHolds, part_size}
 use Rattle.structure_check.specs.declared.table.TablePart.{TablePart}
 use Rattle.structure_check.specs.declared.table.TablePart.TheVariants.{Limits, Roots, Offsets, Outers, Sizes, Targets}
 use Rattle.structure_check.specs.declared.sides.SideCondition.{SideCondition}
@@ -15,7 +15,7 @@ use Rattle.structure_check.specs.declared.corners.CornerCondition.TheVariants.{O
 
 -- all conditions with numbers below c hold everywhere
 abbrev pub HoldBelow : List TileKind → TreeAutomaton → ℕ → Type 0
-HoldBelow kinds a c = (b f s : ℕ) → b < c → IsPlace kinds a b f s → Holds kinds a b f s
+HoldBelow kinds a c = (b f s : ℕ) → b < c → IsReadAt kinds a b f s → Holds kinds a b f s
 
 -- all parts of C1 with numbers below p hold everywhere
 abbrev pub PartsBelow : List TileKind → TreeAutomaton → ℕ → Type 0

@@ -11,7 +11,7 @@ mod sides;
 mod table;
 
 pub use broken::Broken;
-pub use rules::{Rules, check};
+pub use rules::{Rules, check, first_broken};
 
 #[cfg(test)]
 mod tests;

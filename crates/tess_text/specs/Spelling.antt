@@ -2,12 +2,12 @@
 use Rattle.std.specs.Prelude.{◌≡◌, ℕ, ◌<◌, List, length, map, ⊤}
 use Rattle.std.specs.declared.option.Option.TheVariants.{Some}
 use Rattle.tile_model.specs.Tessellations.{TileKind, kind_at, IsType, cross, valence as valence_of}
-use Rattle.tile_kinds.specs.declared.fault.KindFault.{KindFault}
-use Rattle.tile_kinds.specs.Faults.{IsFault}
+use Rattle.tile_model.specs.declared.fault.KindFault.{KindFault}
+use Rattle.tile_model.specs.Faults.{IsFault}
 use Rattle.tess_text.specs.declared.fault.TessFault.{TessFault}
 use Rattle.tess_text.specs.declared.fault.TessFault.TheVariants.{Line, Kinds, Memory}
 use Rattle.tess_text.specs.declared.entry.Entry.{Entry}
-use Rattle.tess_text.specs.Lines.{word_lines}
+use Rattle.tess_text.specs.FileLines.{word_lines}
 use Rattle.tess_text.specs.Grammar.{entries, shapes, partner, valence, IsInGrammar, IsFirstBadLine}
 
 -- The entries spell these kinds: their kind lines give the sides and repeats in order, and each type has the partner and the valence that

@@ -2,8 +2,8 @@
 ghost use Rattle.std.specs.Prelude.{◌≡◌, ◌≢◌, ◌<◌, ◌-◌, ◌^◌, ◌↔◌, ◌++◌, ◌∷◌, [], ℕ, List, length, IsTrue, IfOk, IfErr, MatchBool, MatchOption, MatchResult, ◌⊎◌};
 ghost use Rattle.tile_model.specs.Tessellations.{TileKind};
 ghost use Rattle.tile_model.specs.Validity.{IsValid};
-ghost use Rattle.tile_kinds.specs.declared.fault.KindFault.{KindFault};
-ghost use Rattle.tess_text.specs.Lines.{content, words};
+ghost use Rattle.tile_model.specs.declared.fault.KindFault.{KindFault};
+ghost use Rattle.tess_text.specs.FileLines.{content, words};
 ghost use Rattle.tess_text.specs.Grammar.{entries, head, IsGoodLine, IsGoodEnd, IsFirstBadLine};
 ghost use Rattle.tess_text.specs.Spelling.{Spells, IsSpelling, IsRefused, IsFaultOf};
 ghost use Rattle.tess_text.specs.Tables.{IsRead};

@@ -1,7 +1,7 @@
 // Cutting a text into lines, and a line into words.
 ghost use Rattle.std.specs.Prelude.{◌≡◌, ◌+◌, ◌<◌, ◌==◌, ◌∷◌, [], List, ℕ, length, drop, IfSome, MatchOption};
 ghost use Rattle.std.specs.List.{position_or_len, before_first, after_first};
-ghost use Rattle.tess_text.specs.Lines.{lines, content, is_separator, words};
+ghost use Rattle.tess_text.specs.FileLines.{lines, content, is_separator, words};
 
 /// The place of the first such byte, or the number of bytes where there is none.
 fn place_of(bytes: &[u8], byte: u8) -> usize

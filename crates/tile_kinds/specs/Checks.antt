@@ -2,7 +2,7 @@
 use Rattle.std.specs.Prelude.{ℕ, List}
 use Rattle.tile_model.specs.Tessellations.{TileKind}
 use Rattle.tile_model.specs.Validity.{HasPartner, HasValence, IsInvolution, HasCorner}
-use Rattle.tile_kinds.specs.Faults.{AllTypes}
+use Rattle.tile_model.specs.Faults.{AllTypes}
 use Rattle.tile_kinds.specs.declared.checks.Check.{Check}
 use Rattle.tile_kinds.specs.declared.checks.Check.TheVariants.{Partner, Valence, Involution, Corner}
 

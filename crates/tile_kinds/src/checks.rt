@@ -2,12 +2,12 @@
 ghost use Rattle.std.specs.Prelude.{◌≡◌, ◌<◌, ◌≤◌, length, IsTrue, ◌↔◌, IfSome, IfNone, ℕ};
 ghost use Rattle.tile_model.specs.Tessellations.{IsType, around, around_times, kind_at};
 ghost use Rattle.tile_model.specs.Validity.{HasCount, HasSides, HasRepeat, HasPartner, HasCorner, IsValid};
-ghost use Rattle.tile_kinds.specs.Faults.{AllKinds, AllTypes, IsFault, IsFirstKind, IsFirstType, IsSized};
+ghost use Rattle.tile_model.specs.Faults.{AllKinds, AllTypes, IsFault, IsFirstKind, IsFirstType, IsSized};
 ghost use Rattle.tile_kinds.specs.Checks.{IsReady, Passes};
 
-use crate::fault::KindFault;
 use crate::kinds::{DartType, Kind};
 use crate::moves::{cross_of, has_type, left_of, valence_of};
+use tile_model::KindFault;
 
 /// A check of each type.
 #[derive(Clone, Copy, Debug, PartialEq, Eq)]

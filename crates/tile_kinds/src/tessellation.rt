@@ -4,11 +4,11 @@ ghost use Rattle.tile_model.specs.Tessellations.{IsType, kind_at, left, right, c
 ghost use Rattle.tile_model.specs.Validity.{IsValid};
 
 use crate::checks::fault;
-use crate::fault::KindFault;
 use crate::kinds::{DartType, Kind};
 use crate::moves::{cross_of, has_type, left_of, right_of, valence_of};
 use std::alloc::{AllocError, Global};
 use std::marker::Model;
+use tile_model::KindFault;
 
 /// A tessellation: a list of kinds that has passed all checks.
 #[derive(Debug, Drop)]
@@ -29,8 +29,8 @@ impl Model for Tessellation {
 }
 
 impl Tessellation {
-    ghost use Rattle.tile_kinds.specs.declared.fault.KindFault.{KindFault};
-    ghost use Rattle.tile_kinds.specs.Faults.{IsFault};
+    ghost use Rattle.tile_model.specs.declared.fault.KindFault.{KindFault};
+    ghost use Rattle.tile_model.specs.Faults.{IsFault};
 
     /// Makes a tessellation of 1 to 256 kinds. A list that is not valid is handed back as it was, with its first fault in the order of
     /// `KindFault`, at its least kind and residue. Takes no memory.

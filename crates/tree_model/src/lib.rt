@@ -18,3 +18,6 @@ pub struct Claim {
     pub corner: u32,
     pub place: u8,
 }
+
+/// The most crossings that a walker may be from the root of its tree, and so the most sides of a name that is read.
+pub const DEEPEST: u32 = 4_000;

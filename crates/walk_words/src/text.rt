@@ -1,7 +1,7 @@
 // The texts of walks, read and printed.
 ghost use Rattle.std.specs.Prelude.{◌≡◌, ◌≢◌, List, IfOk, IfSome, IfNone, IsErrOf, MatchResult};
 ghost use Rattle.tile_model.specs.declared.Letter.{Letter};
-ghost use Rattle.walk_words.specs.Text.{letter_code, walk_text};
+ghost use Rattle.tile_model.specs.WalkTexts.{letter_code, walk_text};
 
 use crate::walk::Walk;
 use std::alloc::{AllocError, Global};

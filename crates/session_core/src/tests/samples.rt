@@ -1,10 +1,12 @@
-// Five tessellations with rules: pentagons and squares, four at a corner; heptagons, three; triangles, seven; heptagons and hexagons, three.
+// Five tessellations with rules: pentagons and squares, four at a corner; heptagons, three; triangles, seven;
+// heptagons and hexagons, three.
 use rules_data::{Automaton, Claim, Corner, Rule, State};
 use std::alloc::{AllocError, Global};
 use structure_check::{Rules, check};
 use tile_kinds::{Kind, Tessellation};
 
-// A state: its kind, the type of its side 0, its rules, and of its claims the corners and the places, all by digits and letters.
+// A state: its kind, the type of its side 0, its rules, and of its claims the corners and the places.
+// All of these are given by digits and letters.
 type Row<'a> = (u8, u8, &'a [u8], &'a [u8], &'a [u8]);
 
 // A corner type: its offsets, the outer corner with its place, and the rank.

@@ -1,6 +1,6 @@
 use Rattle.std.proofs.Common.{◌≡◌, ◌+◌, drop}
 use Rattle.std.specs.List.{position_or_len}
-use Rattle.tess_text.specs.Lines.{is_separator}
+use Rattle.tess_text.specs.FileLines.{is_separator}
 use Rattle.tess_text.proofs.scan.word_end.Given as goal
 
 abbrev pub invariant-loop-place : goal.invariant-loop-place
