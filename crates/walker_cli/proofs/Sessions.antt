@@ -10,67 +10,43 @@ use Rattle.structure_check.specs.Rules.{TreeRules}
 use Rattle.walker_cli.specs.declared.answer.Answer.{Answer}
 use Rattle.walker_cli.specs.declared.answer.Answer.TheVariants.{Usage}
 use Rattle.walker_cli.specs.declared.load.Refusal.{Refusal}
-use Rattle.walker_cli.specs.Tasks.{Task, TellType, CheckRules, RunSession, Ask, tess_of, LacksKind}
+use Rattle.walker_cli.specs.Tasks.{RunSession, Ask}
 use Rattle.walker_cli.specs.Held.{Loaded, Refused, Outcome, Holds, IsTess, IsRules, tess_limit, rules_limit, tess_too_long, tess_line, tess_kinds, tess_loaded, rules_too_long, rules_syntax, rules_shape, rules_broken, rules_loaded}
 use Rattle.walker_cli.specs.Runs.{Call}
-use Rattle.walker_cli.specs.Due.{IsDue, Serves, no_form, no_tess, no_kind, type_told, no_rules, rules_accepted, no_session}
+use Rattle.walker_cli.specs.Due.{Contents, SessionRow, session_no_tess, session_no_kind, session_no_rules, Serves}
 use Rattle.walker_cli.specs.Loading.{IsRefusedAs, IsOfOutside}
 use Rattle.walker_cli.proofs.Deciding.{one_task, outside_comes, TessRead, RulesRead, tess_comes, rules_come}
 
--- the rows of the table for words that ask for a session
-pub data SessionRow (call : Call) (tess : List ℕ) (k : ℕ) (rules : List ℕ) : Answer → Type 0 where
-  session_refused : (answer : Answer) → IsTess call.contents tess (Refused answer) → SessionRow call tess k rules answer
-  session_lacking : (kinds : List TileKind) → IsTess call.contents tess (Loaded kinds) → length kinds ≤ k → SessionRow call tess k rules Usage
-  session_broken : (kinds : List TileKind) (answer : Answer) → IsTess call.contents tess (Loaded kinds) → k < length kinds → IsRules call.contents kinds rules (Refused answer) → SessionRow call tess k rules answer
-
-pub session_row : (call : Call) (tess : List ℕ) (k : ℕ) (rules : List ℕ) → Ask call.words (RunSession tess k rules) → {answer : Answer} → IsDue call answer → SessionRow call tess k rules answer
-session_row call tess k rules ask (no_form none) = absurd (none (RunSession tess k rules) ask)
-session_row call tess k rules ask (no_tess task answer other is) =
-    let same = one_task call.words task (RunSession tess k rules) other ask in
-    session_refused answer (subst (λ (t : Task). IsTess call.contents (tess_of t) (Refused answer)) same is)
-session_row call tess k rules ask (no_kind task kinds other is lacks) =
-    let same = one_task call.words task (RunSession tess k rules) other ask in
-    session_lacking kinds (subst (λ (t : Task). IsTess call.contents (tess_of t) (Loaded kinds)) same is) (subst (λ (t : Task). LacksKind t (length kinds)) same lacks)
-session_row call tess k rules ask (type_told tess' k' walk kinds other is lt) = absurd (cc (one_task call.words (TellType tess' k' walk) (RunSession tess k rules) other ask))
-session_row call tess k rules ask (no_rules tess' rules' kinds answer other is refused) = absurd (cc (one_task call.words (CheckRules tess' rules') (RunSession tess k rules) other ask))
-session_row call tess k rules ask (rules_accepted tess' rules' kinds a other is loaded) = absurd (cc (one_task call.words (CheckRules tess' rules') (RunSession tess k rules) other ask))
-session_row call tess k rules ask (no_session tess' k' rules' kinds answer other is lt refused) =
-    let same = one_task call.words (RunSession tess' k' rules') (RunSession tess k rules) other ask in
-    let same_tess : tess' ≡ tess = cc same in
-    let same_kind : k' ≡ k = cc same in
-    let same_rules : rules' ≡ rules = cc same in
-    session_broken kinds answer (subst (λ (f : List ℕ). IsTess call.contents f (Loaded kinds)) same_tess is) (subst (λ (n : ℕ). n < length kinds) same_kind lt) (subst (λ (f : List ℕ). IsRules call.contents kinds f (Refused answer)) same_rules refused)
-
 -- the four ways in which the opening of a session ends, where an answer is due
-pub session_unread : {T : Type 0} (call : Call) (tess : List ℕ) (k : ℕ) (rules : List ℕ) (view : T → List TileKind) (refusal : Refusal) → TessRead {T = T} call.contents tess view (Err refusal) → {answer : Answer} → SessionRow call tess k rules answer → IsRefusedAs answer refusal
-session_unread call tess k rules view refusal known (session_refused answer is) = tess_comes call.contents tess view (Err refusal) known is
-session_unread call tess k rules view refusal known (session_lacking kinds is lacks) = outside_comes Usage refusal (tess_comes call.contents tess view (Err refusal) known is)
-session_unread call tess k rules view refusal known (session_broken kinds answer is lt refused) = outside_comes answer refusal (tess_comes call.contents tess view (Err refusal) known is)
+pub session_unread : {T : Type 0} (contents : Contents) (tess : List ℕ) (k : ℕ) (rules : List ℕ) (view : T → List TileKind) (refusal : Refusal) → TessRead {T = T} contents tess view (Err refusal) → {answer : Answer} → SessionRow contents tess k rules answer → IsRefusedAs answer refusal
+session_unread contents tess k rules view refusal known (session_no_tess answer is) = tess_comes contents tess view (Err refusal) known is
+session_unread contents tess k rules view refusal known (session_no_kind kinds is lacks) = outside_comes Usage refusal (tess_comes contents tess view (Err refusal) known is)
+session_unread contents tess k rules view refusal known (session_no_rules kinds answer is lt refused) = outside_comes answer refusal (tess_comes contents tess view (Err refusal) known is)
 
-pub session_missing : {T : Type 0} (call : Call) (tess : List ℕ) (k : ℕ) (rules : List ℕ) (view : T → List TileKind) (t : T) → TessRead call.contents tess view (Ok t) → length (view t) ≤ k → {answer : Answer} → SessionRow call tess k rules answer → Usage ≡ answer
-session_missing call tess k rules view t known few (session_refused answer is) = absurd (tess_comes call.contents tess view (Ok t) known is)
-session_missing call tess k rules view t known few (session_lacking kinds is lacks) = refl
-session_missing call tess k rules view t known few (session_broken kinds answer is lt refused) =
-    let same : view t ≡ kinds = tess_comes call.contents tess view (Ok t) known is in
+pub session_missing : {T : Type 0} (contents : Contents) (tess : List ℕ) (k : ℕ) (rules : List ℕ) (view : T → List TileKind) (t : T) → TessRead contents tess view (Ok t) → length (view t) ≤ k → {answer : Answer} → SessionRow contents tess k rules answer → Usage ≡ answer
+session_missing contents tess k rules view t known few (session_no_tess answer is) = absurd (tess_comes contents tess view (Ok t) known is)
+session_missing contents tess k rules view t known few (session_no_kind kinds is lacks) = refl
+session_missing contents tess k rules view t known few (session_no_rules kinds answer is lt refused) =
+    let same : view t ≡ kinds = tess_comes contents tess view (Ok t) known is in
     absurd (omega (arith, ap length same, few, lt))
 
-pub session_failed : {T S : Type 0} (call : Call) (tess : List ℕ) (k : ℕ) (rules : List ℕ) (view : T → List TileKind) (t : T) (tables : S → TreeAutomaton) (refusal : Refusal) → TessRead call.contents tess view (Ok t) → RulesRead {T = S} call.contents (view t) rules tables (Err refusal) → k < length (view t) → {answer : Answer} → SessionRow call tess k rules answer → IsRefusedAs answer refusal
-session_failed call tess k rules view t tables refusal known read few (session_refused answer is) = absurd (tess_comes call.contents tess view (Ok t) known is)
-session_failed call tess k rules view t tables refusal known read few (session_lacking kinds is lacks) =
-    let same : view t ≡ kinds = tess_comes call.contents tess view (Ok t) known is in
+pub session_failed : {T S : Type 0} (contents : Contents) (tess : List ℕ) (k : ℕ) (rules : List ℕ) (view : T → List TileKind) (t : T) (tables : S → TreeAutomaton) (refusal : Refusal) → TessRead contents tess view (Ok t) → RulesRead {T = S} contents (view t) rules tables (Err refusal) → k < length (view t) → {answer : Answer} → SessionRow contents tess k rules answer → IsRefusedAs answer refusal
+session_failed contents tess k rules view t tables refusal known read few (session_no_tess answer is) = absurd (tess_comes contents tess view (Ok t) known is)
+session_failed contents tess k rules view t tables refusal known read few (session_no_kind kinds is lacks) =
+    let same : view t ≡ kinds = tess_comes contents tess view (Ok t) known is in
     absurd (omega (arith, ap length same, few, lacks))
-session_failed call tess k rules view t tables refusal known read few (session_broken kinds answer is lt refused) =
-    let same : view t ≡ kinds = tess_comes call.contents tess view (Ok t) known is in
-    rules_come call.contents (view t) rules tables (Err refusal) read (subst (λ (ks : List TileKind). IsRules call.contents ks rules (Refused answer)) (sym same) refused)
+session_failed contents tess k rules view t tables refusal known read few (session_no_rules kinds answer is lt refused) =
+    let same : view t ≡ kinds = tess_comes contents tess view (Ok t) known is in
+    rules_come contents (view t) rules tables (Err refusal) read (subst (λ (ks : List TileKind). IsRules contents ks rules (Refused answer)) (sym same) refused)
 
-pub session_opened : {T S : Type 0} (call : Call) (tess : List ℕ) (k : ℕ) (rules : List ℕ) (view : T → List TileKind) (t : T) (tables : S → TreeAutomaton) (s : S) → TessRead call.contents tess view (Ok t) → RulesRead call.contents (view t) rules tables (Ok s) → k < length (view t) → {answer : Answer} → SessionRow call tess k rules answer → ⊥
-session_opened call tess k rules view t tables s known read few (session_refused answer is) = absurd (tess_comes call.contents tess view (Ok t) known is)
-session_opened call tess k rules view t tables s known read few (session_lacking kinds is lacks) =
-    let same : view t ≡ kinds = tess_comes call.contents tess view (Ok t) known is in
+pub session_opened : {T S : Type 0} (contents : Contents) (tess : List ℕ) (k : ℕ) (rules : List ℕ) (view : T → List TileKind) (t : T) (tables : S → TreeAutomaton) (s : S) → TessRead contents tess view (Ok t) → RulesRead contents (view t) rules tables (Ok s) → k < length (view t) → {answer : Answer} → SessionRow contents tess k rules answer → ⊥
+session_opened contents tess k rules view t tables s known read few (session_no_tess answer is) = absurd (tess_comes contents tess view (Ok t) known is)
+session_opened contents tess k rules view t tables s known read few (session_no_kind kinds is lacks) =
+    let same : view t ≡ kinds = tess_comes contents tess view (Ok t) known is in
     absurd (omega (arith, ap length same, few, lacks))
-session_opened call tess k rules view t tables s known read few (session_broken kinds answer is lt refused) =
-    let same : view t ≡ kinds = tess_comes call.contents tess view (Ok t) known is in
-    rules_come call.contents (view t) rules tables (Ok s) read (subst (λ (ks : List TileKind). IsRules call.contents ks rules (Refused answer)) (sym same) refused)
+session_opened contents tess k rules view t tables s known read few (session_no_rules kinds answer is lt refused) =
+    let same : view t ≡ kinds = tess_comes contents tess view (Ok t) known is in
+    rules_come contents (view t) rules tables (Ok s) read (subst (λ (ks : List TileKind). IsRules contents ks rules (Refused answer)) (sym same) refused)
 
 -- what the files of a session hold, by the names that the words give them
 pub record Opens (call : Call) (tess : List ℕ) (k : ℕ) (rules : List ℕ) (kinds : List TileKind) (a : TreeAutomaton) (k' : ℕ) : Type 0 where

@@ -14,11 +14,11 @@ use Rattle.walker_cli.specs.declared.answer.Saying.{Saying}
 use Rattle.walker_cli.specs.declared.answer.Saying.TheVariants.{Due, FileFault}
 use Rattle.walker_cli.specs.declared.answer.Answer.{Answer}
 use Rattle.walker_cli.specs.declared.answer.Answer.TheVariants.{TypeTold, Accepted, Usage}
-use Rattle.walker_cli.specs.Tasks.{RunSession, HaveNoForm, AreNotOfRun}
+use Rattle.walker_cli.specs.Tasks.{TellType, CheckRules, RunSession, HaveNoForm, AreNotOfRun}
 use Rattle.walker_cli.specs.Runs.{Run, call_of}
 use Rattle.walker_cli.specs.StatusLines.{OfLine, OfOutside, OfStream, OfMemory, class_of, status_of, line_of, saying_status, saying_line}
 use Rattle.walker_cli.specs.Held.{tess_loaded, rules_loaded}
-use Rattle.walker_cli.specs.Due.{IsDue, ServesSome, IsFileFault, type_told, rules_accepted}
+use Rattle.walker_cli.specs.Due.{IsDue, ServesSome, IsFileFault, type_told, check_accepted, by_task}
 use Rattle.walker_cli.specs.Outcome.{Writes, WritesNothing, IsOutside, ComesExactly, Gives, GivesAtOnce, TellsType, TellsAccepted}
 use Rattle.walker_cli.specs.Promise.{BeginsLine, IsServing, TellsFileFault}
 use Rattle.walker_cli.specs.Ending.{SaysLine, said, unsaid, unwritten, EndsStream, answered, cut_off, over_limit, broken_off, out_of_memory, IsSayingOf, IsSessionOf, EndsRun, no_plan, with_line, with_stream}
@@ -103,7 +103,7 @@ module _ (run : Run) where
   pub type_row : EndsRun run → IsTrue run.files_tell → (line : List ℕ) → TellsType (call_of run) line → Gives run Done line
   type_row ends told line t =
       let d = type_of t.kinds (t.k, 0) t.walk in
-      let due : IsDue (call_of run) (TypeTold d) = type_told t.tess t.k t.walk t.kinds t.form (tess_loaded t.bytes t.kinds t.holds t.spelling t.valid) t.is_kind in
+      let due : IsDue (call_of run) (TypeTold d) = by_task (TellType t.tess t.k t.walk) (TypeTold d) t.form (type_told t.kinds (tess_loaded t.bytes t.kinds t.holds t.spelling t.valid) t.is_kind) in
       let same : line_of (TypeTold d) ≡ line = sym (t.written ∙ append_assoc (codes "type " ++ decimal d.0 ++ codes " ") (decimal d.1) (codes "\n") ∙ append_assoc (codes "type " ++ decimal d.0) (codes " ") (decimal d.1 ++ codes "\n") ∙ append_assoc (codes "type ") (decimal d.0) (codes " " ++ (decimal d.1 ++ codes "\n"))) in
       subst (λ (l : List ℕ). Gives run Done l) same (given ends told (TypeTold d) due)
 
@@ -112,7 +112,7 @@ module _ (run : Run) where
   accepted_row ends told line t =
       let states = length t.automaton.states in
       let corners = length t.automaton.corners in
-      let due : IsDue (call_of run) (Accepted states corners) = rules_accepted t.tess t.rules t.kinds t.automaton t.form (tess_loaded t.tess_bytes t.kinds t.holds_tess t.tess_spelling t.valid) (rules_loaded t.rules_bytes t.automaton t.holds_rules t.rules_spelling t.accepted) in
+      let due : IsDue (call_of run) (Accepted states corners) = by_task (CheckRules t.tess t.rules) (Accepted states corners) t.form (check_accepted t.kinds t.automaton (tess_loaded t.tess_bytes t.kinds t.holds_tess t.tess_spelling t.valid) (rules_loaded t.rules_bytes t.automaton t.holds_rules t.rules_spelling t.accepted)) in
       let same : line_of (Accepted states corners) ≡ line = sym (t.written ∙ append_assoc (codes "accepted " ++ decimal states ++ codes " ") (decimal corners) (codes "\n") ∙ append_assoc (codes "accepted " ++ decimal states) (codes " ") (decimal corners ++ codes "\n") ∙ append_assoc (codes "accepted ") (decimal states) (codes " " ++ (decimal corners ++ codes "\n"))) in
       subst (λ (l : List ℕ). Gives run Done l) same (given ends told (Accepted states corners) due)
 

@@ -2,7 +2,8 @@
 -- rules walkers are served instead.
 -- No fault of the outside and no want of memory comes between.
 -- Of a fault of the outside it is said which files may be fetched.
-use Rattle.std.specs.Prelude.{ℕ, ◌<◌, List, length}
+-- Each form of the words has rows of its own.
+use Rattle.std.specs.Prelude.{ℕ, ◌<◌, ◌≤◌, List, length, Option}
 use Rattle.tile_model.specs.declared.Letter.{Letter}
 use Rattle.tile_model.specs.Tessellations.{TileKind}
 use Rattle.tile_model.specs.Walks.{type_of}
@@ -17,54 +18,91 @@ use Rattle.walker_cli.specs.declared.answer.Saying.{Saying}
 use Rattle.walker_cli.specs.declared.answer.Saying.TheVariants.{Due as DueAnswer, FileFault}
 use Rattle.walker_cli.specs.declared.answer.Answer.{Answer}
 use Rattle.walker_cli.specs.declared.answer.Answer.TheVariants.{TypeTold, Accepted, Usage}
-use Rattle.walker_cli.specs.Tasks.{Task, TellType, CheckRules, RunSession, Ask, IsRunForm, HaveNoForm, tess_of, LacksKind}
+use Rattle.walker_cli.specs.Tasks.{Task, TellType, CheckRules, RunSession, Ask, IsRunForm, HaveNoForm}
 use Rattle.walker_cli.specs.Runs.{Call}
 use Rattle.walker_cli.specs.Held.{Loaded, Refused, Holds, IsTess, IsRules, tess_limit, rules_limit}
+
+-- what each file holds, by its name
+abbrev pub Contents : Type 0
+Contents = List ℕ → Option (List ℕ)
+
+-- the rows of the form `kind`
+pub data TypeRow (contents : Contents) (tess : List ℕ) (k : ℕ) (walk : List Letter) :
+    Answer → Type 0 where
+  -- the tessellation file is refused
+  type_no_tess :
+      (answer : Answer)
+      → IsTess contents tess (Refused answer)
+      → TypeRow contents tess k walk answer
+  -- the words name no kind of the tessellation
+  type_no_kind :
+      (kinds : List TileKind)
+      → IsTess contents tess (Loaded kinds)
+      → length kinds ≤ k
+      → TypeRow contents tess k walk Usage
+  -- the type that the walk leads to
+  type_told :
+      (kinds : List TileKind)
+      → IsTess contents tess (Loaded kinds)
+      → k < length kinds
+      → TypeRow contents tess k walk (TypeTold (type_of kinds (k, 0) walk))
+
+-- the rows of the form `check`
+pub data CheckRow (contents : Contents) (tess rules : List ℕ) : Answer → Type 0 where
+  -- the tessellation file is refused
+  check_no_tess :
+      (answer : Answer)
+      → IsTess contents tess (Refused answer)
+      → CheckRow contents tess rules answer
+  -- the rules file is refused
+  check_no_rules :
+      (kinds : List TileKind) (answer : Answer)
+      → IsTess contents tess (Loaded kinds)
+      → IsRules contents kinds rules (Refused answer)
+      → CheckRow contents tess rules answer
+  -- the rules are accepted
+  check_accepted :
+      (kinds : List TileKind) (a : TreeAutomaton)
+      → IsTess contents tess (Loaded kinds)
+      → IsRules contents kinds rules (Loaded a)
+      → CheckRow contents tess rules (Accepted (length a.states) (length a.corners))
+
+-- the rows of the form `run`, where no walkers are served
+pub data SessionRow (contents : Contents) (tess : List ℕ) (k : ℕ) (rules : List ℕ) :
+    Answer → Type 0 where
+  -- the tessellation file is refused
+  session_no_tess :
+      (answer : Answer)
+      → IsTess contents tess (Refused answer)
+      → SessionRow contents tess k rules answer
+  -- the words name no kind of the tessellation
+  session_no_kind :
+      (kinds : List TileKind)
+      → IsTess contents tess (Loaded kinds)
+      → length kinds ≤ k
+      → SessionRow contents tess k rules Usage
+  -- the rules file is refused
+  session_no_rules :
+      (kinds : List TileKind) (answer : Answer)
+      → IsTess contents tess (Loaded kinds)
+      → k < length kinds
+      → IsRules contents kinds rules (Refused answer)
+      → SessionRow contents tess k rules answer
+
+-- the rows of a task
+abbrev pub Row : Contents → Task → Answer → Type 0
+Row contents (TellType tess k walk) = TypeRow contents tess k walk
+Row contents (CheckRules tess rules) = CheckRow contents tess rules
+Row contents (RunSession tess k rules) = SessionRow contents tess k rules
 
 pub data IsDue (call : Call) : Answer → Type 0 where
   -- the words are in no form
   no_form : HaveNoForm call.words → IsDue call Usage
-  -- the tessellation file is refused
-  no_tess :
+  -- the words ask for a task
+  by_task :
       (task : Task) (answer : Answer)
       → Ask call.words task
-      → IsTess call.contents (tess_of task) (Refused answer)
-      → IsDue call answer
-  -- the words name no kind of the tessellation
-  no_kind :
-      (task : Task) (kinds : List TileKind)
-      → Ask call.words task
-      → IsTess call.contents (tess_of task) (Loaded kinds)
-      → LacksKind task (length kinds)
-      → IsDue call Usage
-  -- the type that the walk leads to
-  type_told :
-      (tess : List ℕ) (k : ℕ) (walk : List Letter) (kinds : List TileKind)
-      → Ask call.words (TellType tess k walk)
-      → IsTess call.contents tess (Loaded kinds)
-      → k < length kinds
-      → IsDue call (TypeTold (type_of kinds (k, 0) walk))
-  -- the rules file is refused
-  no_rules :
-      (tess rules : List ℕ) (kinds : List TileKind) (answer : Answer)
-      → Ask call.words (CheckRules tess rules)
-      → IsTess call.contents tess (Loaded kinds)
-      → IsRules call.contents kinds rules (Refused answer)
-      → IsDue call answer
-  -- the rules are accepted
-  rules_accepted :
-      (tess rules : List ℕ) (kinds : List TileKind) (a : TreeAutomaton)
-      → Ask call.words (CheckRules tess rules)
-      → IsTess call.contents tess (Loaded kinds)
-      → IsRules call.contents kinds rules (Loaded a)
-      → IsDue call (Accepted (length a.states) (length a.corners))
-  -- the rules file of a session is refused
-  no_session :
-      (tess : List ℕ) (k : ℕ) (rules : List ℕ) (kinds : List TileKind) (answer : Answer)
-      → Ask call.words (RunSession tess k rules)
-      → IsTess call.contents tess (Loaded kinds)
-      → k < length kinds
-      → IsRules call.contents kinds rules (Refused answer)
+      → Row call.contents task answer
       → IsDue call answer
 
 -- The words are `run TESS K --rules RULES`, both files hold what they should within their limits, the
@@ -91,21 +129,20 @@ pub record ServesSome (call : Call) : Type 0 where
   pub kind : ℕ
   pub serves : Serves call kinds automaton kind
 
--- The call fetches the file of this role: the words name it, and nothing that is tried before it
--- refuses them.
-pub data Fetches (call : Call) : Role → Type 0 where
-  fetches_tess : (task : Task) → Ask call.words task → Fetches call Tess
-  checks :
-      (tess rules : List ℕ) (kinds : List TileKind)
-      → Ask call.words (CheckRules tess rules)
-      → IsTess call.contents tess (Loaded kinds)
-      → Fetches call Rules
-  serves_by :
-      (tess : List ℕ) (k : ℕ) (rules : List ℕ) (kinds : List TileKind)
-      → Ask call.words (RunSession tess k rules)
-      → IsTess call.contents tess (Loaded kinds)
-      → k < length kinds
-      → Fetches call Rules
+-- Where a task fetches the file of this role: where nothing that is tried before it refuses.
+abbrev pub FetchesFor : Contents → Task → Role → Type 0
+FetchesFor contents task Tess = Unit {0}
+FetchesFor contents (TellType tess k walk) Rules = ⊥
+FetchesFor contents (CheckRules tess rules) Rules =
+    (kinds : List TileKind) × IsTess contents tess (Loaded kinds)
+FetchesFor contents (RunSession tess k rules) Rules =
+    (kinds : List TileKind) × IsTess contents tess (Loaded kinds) × (k < length kinds)
+
+-- the call asks for a task that fetches the file of this role
+pub record Fetches (call : Call) (role : Role) : Type 0 where
+  pub task : Task
+  pub ask : Ask call.words task
+  pub reached : FetchesFor call.contents task role
 
 -- what a call may say: the answer that is due, or that a file which it fetches could not be read
 abbrev pub MaySay : Call → Saying → Type 0
