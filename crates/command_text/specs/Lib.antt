@@ -1,3 +1,3 @@
-pub mod Lines
+pub mod CommandLines
 pub mod Words
 pub mod Replies

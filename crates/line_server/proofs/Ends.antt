@@ -3,14 +3,15 @@ use Rattle.std.proofs.Common.{◌≡◌, ℕ, ◌+◌, ◌<◌, ◌≤◌, Bool,
 use Rattle.std.proofs.lemmas.List.{append_assoc, append-nil, length-append}
 use Rattle.way_io.specs.Pieces.{AppendsPrefix}
 use Rattle.session_core.specs.Sessions.{SessionState}
-use Rattle.session_core.specs.WalkSessions.{StandsForWalks, IsDueOverWalks}
-use Rattle.line_server.specs.declared.reader.Stop.{Stop}
-use Rattle.line_server.specs.declared.reader.Stop.TheVariants.{Write, Memory as NoMemory}
+use Rattle.session_core.specs.WalkSessions.{StandsForWalks}
+use Rattle.line_server.specs.declared.outbox.Stop.{Stop}
+use Rattle.line_server.specs.declared.outbox.Stop.TheVariants.{Write, Memory as NoMemory}
 use Rattle.line_server.specs.declared.stream.Ending.{Ending}
 use Rattle.line_server.specs.declared.stream.Ending.TheVariants.{Done, ReadFault, InputTooLong}
 use Rattle.line_server.specs.Lines.{most_of_stream}
-use Rattle.line_server.specs.Outputs.{History, IsOutput, of_lines, of_all}
-use Rattle.line_server.specs.Sessions.{Continues}
+use Rattle.line_server.specs.Answering.{History}
+use Rattle.line_server.specs.Outputs.{IsOutput, of_lines, of_all}
+use Rattle.line_server.specs.Sessions.{Continues, answering_of}
 use Rattle.line_server.specs.Endings.{GivesInOrder, IsServed, IsCutOff, IsOverrun, IsBegun}
 use Rattle.line_server.specs.Serving.{EndsAs, ends_done, ends_unread, ends_over, ends_stopped, ending_of}
 
@@ -56,32 +57,32 @@ module _ (gives takes : Bool) (old : SessionState) (left taken : List ℕ) (new 
   in_order _ (ends_over bytes more out given full some session written) t = record { given = bytes ++ more; split = given t ∙ sym (append_assoc bytes more left') }
   in_order _ (ends_stopped stop bytes out given front written) t = record { given = bytes; split = given t }
 
-  pub done : (result : Ending) → Ends result → IsTrue gives → IsTrue takes → result ≡ Done → Continues old new (λ before after. IsServed (IsDueOverWalks old) before left left' taken taken' after)
+  pub done : (result : Ending) → Ends result → IsTrue gives → IsTrue takes → result ≡ Done → Continues old new (λ before after. IsServed (answering_of old) before left left' taken taken' after)
   done _ (ends_done bytes out given few session written) t u e = record {
     rules = session.rules;
     kind = session.kind;
     stands = λ before here.
         let it = session.stands before here in
         let same : bytes ≡ left = sym (given t).0 in
-        (it.0, record { read = (given t).1; within = subst (λ l. length l ≤ most_of_stream) same few; out = out; output = subst (λ l. IsOutput (IsDueOverWalks old) before l out it.0) same it.1; written = written u }, it.2);
+        (it.0, record { read = (given t).1; within = subst (λ l. length l ≤ most_of_stream) same few; out = out; output = subst (λ l. IsOutput (answering_of old) before l out it.0) same it.1; written = written u }, it.2);
   }
   done _ (ends_unread bytes out given few session written) t u e = absurd (cc)
   done _ (ends_over bytes more out given full some session written) t u e = absurd (cc)
   done _ (ends_stopped stop bytes out given front written) t u e = absurd (not_done stop e)
 
-  pub read_fault : (result : Ending) → Ends result → IsTrue gives → IsTrue takes → result ≡ ReadFault → Continues old new (λ before after. IsCutOff (IsDueOverWalks old) before left left' taken taken' after)
+  pub read_fault : (result : Ending) → Ends result → IsTrue gives → IsTrue takes → result ≡ ReadFault → Continues old new (λ before after. IsCutOff (answering_of old) before left left' taken taken' after)
   read_fault _ (ends_done bytes out given few session written) t u e = absurd (cc)
   read_fault _ (ends_unread bytes out given few session written) t u e = record {
     rules = session.rules;
     kind = session.kind;
     stands = λ before here.
         let it = session.stands before here in
-        (it.0, record { bytes = bytes; read = given t; out = out; output = it.1; written = written u }, it.2);
+        (it.0, record { bytes = bytes; read = given t; within = few; out = out; output = it.1; written = written u }, it.2);
   }
   read_fault _ (ends_over bytes more out given full some session written) t u e = absurd (cc)
   read_fault _ (ends_stopped stop bytes out given front written) t u e = absurd (not_unread stop e)
 
-  pub input_too_long : (result : Ending) → Ends result → IsTrue gives → IsTrue takes → result ≡ InputTooLong → Continues old new (λ before after. IsOverrun (IsDueOverWalks old) before left taken taken' after)
+  pub input_too_long : (result : Ending) → Ends result → IsTrue gives → IsTrue takes → result ≡ InputTooLong → Continues old new (λ before after. IsOverrun (answering_of old) before left taken taken' after)
   input_too_long _ (ends_done bytes out given few session written) t u e = absurd (cc)
   input_too_long _ (ends_unread bytes out given few session written) t u e = absurd (cc)
   input_too_long _ (ends_over bytes more out given full some session written) t u e = record {
@@ -100,15 +101,15 @@ module _ (gives takes : Bool) (old : SessionState) (left taken : List ℕ) (new 
   all_sent : (out : List ℕ) → taken' ≡ taken ++ out → AppendsPrefix taken taken' out
   all_sent out e = record { rest = []; sent = record { sent = out; split = sym (append-nil out); appended = e } }
 
-  pub begun : (result : Ending) → Ends result → IsTrue gives → IsTrue takes → (before : History) → StandsForWalks old before → IsBegun (IsDueOverWalks old) before left taken taken'
+  pub begun : (result : Ending) → Ends result → IsTrue gives → IsTrue takes → (before : History) → StandsForWalks old before → IsBegun (answering_of old) before left taken taken'
   begun _ (ends_done bytes out given few session written) t u before here =
       let it = session.stands before here in
       let same : bytes ≡ left = sym (given t).0 in
-      record { out = out; output = of_all out it.0 (subst (λ l. length l ≤ most_of_stream) same few) (subst (λ l. IsOutput (IsDueOverWalks old) before l out it.0) same it.1); written = all_sent out (written u) }
+      record { out = out; output = of_all out it.0 (subst (λ l. length l ≤ most_of_stream) same few) (subst (λ l. IsOutput (answering_of old) before l out it.0) same it.1); written = all_sent out (written u) }
   begun _ (ends_unread bytes out given few session written) t u before here =
       let it = session.stands before here in
       record { out = out; output = of_lines bytes left' out it.0 (given t) few it.1; written = all_sent out (written u) }
   begun _ (ends_over bytes more out given full some session written) t u before here =
       let it = session.stands before here in
       record { out = out; output = of_lines bytes (more ++ left') out it.0 (given t) (omega (arith, full)) it.1; written = all_sent out (written u) }
-  begun _ (ends_stopped stop bytes out given front written) t u before here = record { out = out; output = front before here t; written = written u }
+  begun _ (ends_stopped stop bytes out given front written) t u before here = record { out = out; output = front t before here; written = written u }

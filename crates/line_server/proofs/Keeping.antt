@@ -8,8 +8,9 @@ use Rattle.std.proofs.lemmas.List.Edits.{take-paste}
 use Rattle.std.proofs.lemmas.List.Elements.{All-nil}
 use Rattle.session_core.specs.Sessions.{SessionState}
 use Rattle.line_server.specs.declared.reader.Reader.{Reader}
-use Rattle.line_server.specs.Lines.{feed, LacksFeed, most_of_line}
-use Rattle.line_server.specs.Readers.{Keeps, AreDropped, HasAnswered, HasComeTo, HasRead, HasStopped, behind}
+use Rattle.command_text.specs.CommandLines.{most_of_line}
+use Rattle.line_server.specs.Lines.{feed, LacksFeed}
+use Rattle.line_server.specs.Readers.{Keeps, AreDropped, HasAnsweredLines, HasComeTo, HasRead, HasStopped, behind}
 
 -- the last bytes are as many as they should be
 pub length_behind : (rest : ℕ) (bytes : List ℕ) → rest ≤ length bytes → length (behind rest bytes) ≡ rest
@@ -80,5 +81,5 @@ module _ (tells : Bool) (old : SessionState) (r : Reader) (line : List ℕ) (fre
       record {
         line = come.hidden ++ behind rest bytes;
         keeps = keeps come.hidden come.are_dropped come.answered.cut.open_end;
-        answered = subst (λ l. HasAnswered tells old l taken new (come.hidden ++ behind rest bytes) taken') (ap (λ l. it.0 ++ l) e ∙ it.2) come.answered;
+        answered = subst (λ l. HasAnsweredLines tells old l taken new (come.hidden ++ behind rest bytes) taken') (ap (λ l. it.0 ++ l) e ∙ it.2) come.answered;
       }

@@ -1,4 +1,5 @@
-pub mod Cutting
+pub mod Counts
+pub mod Saying
 pub mod Answering
 pub mod Chains
 pub mod Going
@@ -7,6 +8,3 @@ pub mod LastLine
 pub mod Serving
 pub mod Ends
 pub mod Pieces
-pub mod Once
-pub mod OneOutput
-pub mod SameOutput

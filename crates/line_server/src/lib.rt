@@ -2,8 +2,9 @@
 #![tactic(auto)]
 
 mod answer;
-pub mod laws;
+// pub mod laws;
 mod lines;
+mod outbox;
 mod reader;
 mod stream;
 #[cfg(test)]

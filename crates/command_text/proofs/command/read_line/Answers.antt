@@ -1,3 +1,4 @@
+use Rattle.std.proofs.Common.{arith}
 use Rattle.command_text.proofs.Forms.{unique, complete}
 use Rattle.command_text.proofs.command.read_line.Goals as goal
 
@@ -10,3 +11,7 @@ returns-clause-complete c = λ command is _.
 
 pub returns-clause-unique : goal.returns-clause-unique
 returns-clause-unique c = unique c.args.line.now
+
+pub returns-clause-bad : goal.returns-clause-bad
+returns-clause-bad c = λ is_bad.
+    (omega (arith, c.if-line-gt-LONGEST_LINE.false), c.read_form.ensures.bad is_bad)

@@ -2,7 +2,7 @@ use Rattle.std.proofs.Common.{ℕ, ◌<◌, sym, ◌∙◌, ap, subst, take}
 use Rattle.std.specs.Char.{digit_value}
 use Rattle.std.specs.Str.Parse.{digits_value}
 use Rattle.std.proofs.lemmas.Int.Digits.{digits_more, digits_value_more}
-use Rattle.command_text.proofs.Words.{digit_of, clamped}
+use Rattle.command_text.proofs.Numbers.{digit_of, clamped}
 use Rattle.command_text.proofs.command.walker.Goals as goal
 
 pub returns-in_default-clause-none : goal.returns-in_default-clause-none
