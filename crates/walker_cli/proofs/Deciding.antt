@@ -5,7 +5,7 @@ use Rattle.tile_model.specs.declared.Letter.{Letter}
 use Rattle.tile_model.specs.Tessellations.{TileKind}
 use Rattle.tile_model.specs.Validity.{IsValid}
 use Rattle.tile_model.specs.Walks.{type_of}
-use Rattle.tile_kinds.specs.declared.fault.KindFault.{KindFault}
+use Rattle.tile_model.specs.declared.fault.KindFault.{KindFault}
 use Rattle.tree_model.specs.Automata.{TreeAutomaton}
 use Rattle.tree_model.specs.Conditions.{IsAccepted}
 use Rattle.tess_text.specs.Grammar.{IsFirstBadLine}
@@ -15,7 +15,7 @@ use Rattle.rules_file.specs.declared.fault.Part.{Part}
 use Rattle.rules_file.specs.Spelling.{IsTextOf, IsRulesFile}
 use Rattle.rules_file.specs.Faults.{IsFirstFault}
 use Rattle.structure_check.specs.Broken.{IsFirstBroken}
-use Rattle.walk_words.specs.Text.{walk_text}
+use Rattle.tile_model.specs.WalkTexts.{walk_text}
 use Rattle.walker_cli.specs.declared.answer.Role.{Role}
 use Rattle.walker_cli.specs.declared.answer.Role.TheVariants.{Tess, Rules}
 use Rattle.walker_cli.specs.declared.answer.Answer.{Answer}
@@ -28,7 +28,7 @@ use Rattle.walker_cli.specs.Held.{Loaded, Refused, Outcome, Holds, HoldsTooMany,
 use Rattle.walker_cli.specs.Runs.{Call}
 use Rattle.walker_cli.specs.Due.{Contents, TypeRow, type_no_tess, type_no_kind, type_told, CheckRow, check_no_tess, check_no_rules, check_accepted, Row, IsDue, no_form, by_task, Fetches}
 use Rattle.walker_cli.specs.Loading.{IsRefusedAs, IsOfOutside, IfPlan, IsPlanDue, ServesOver}
-use Rattle.walk_words.proofs.Codes.{one_walk}
+use Rattle.tile_model.proofs.WalkTexts.{one_walk}
 
 -- what a refusal that tells of the outside is taken for
 pub outside_comes : (answer : Answer) (refusal : Refusal) → IsOfOutside refusal → IsRefusedAs answer refusal

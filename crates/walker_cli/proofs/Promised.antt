@@ -1,6 +1,8 @@
 -- From the way in which a run ended to all that is promised of it.
 use Rattle.std.proofs.Common.{◌≡◌, refl, ap}
 use Rattle.way_io.specs.Counts.{Rose}
+use Rattle.tree_laws.specs.Laws.{OfEachTree}
+use Rattle.line_server.specs.Laws.{OutputsAgree}
 use Rattle.walker_cli.specs.declared.status.Status.TheVariants.{Done, Usage, FileTooLong, TessRefused, RulesText, NotAccepted, ReadFault, WriteFault}
 use Rattle.walker_cli.specs.Runs.{Run}
 use Rattle.walker_cli.specs.StatusLines.{class_of}
@@ -9,9 +11,9 @@ use Rattle.walker_cli.specs.Ending.{EndsRun}
 use Rattle.walker_cli.proofs.TableRows.{exactly, done_row, type_row, accepted_row, no_form_row, fault_row, serving_row, memory_row, write_row}
 use Rattle.walker_cli.proofs.StreamRows.{stream_row}
 
-pub promise : (run : Run) → EndsRun run → (run.status ≡ ReadFault → Rose run.before.failed_reads run.after.failed_reads) → (run.status ≡ WriteFault → Rose run.before.failed_writes run.after.failed_writes) → KeepsOutside run → KeepsPromise run
-promise run ends unread unwritten keeps = record {
-  stream = stream_row run ends;
+pub promise : OfEachTree OutputsAgree → (run : Run) → EndsRun run → (run.status ≡ ReadFault → Rose run.before.failed_reads run.after.failed_reads) → (run.status ≡ WriteFault → Rose run.before.failed_writes run.after.failed_writes) → KeepsOutside run → KeepsPromise run
+promise agree run ends unread unwritten keeps = record {
+  stream = stream_row run agree ends;
   table = record {
     kind = type_row run ends;
     check = accepted_row run ends;

@@ -2,11 +2,11 @@
 use Rattle.std.proofs.Common.{◌≡◌, ℕ, ◌<◌, ◌≤◌, Bool, IsTrue, List, [], ◌⊎◌, inl, inr, refl, sym, ◌∙◌, ap, subst, length, arith}
 use Rattle.tile_model.specs.Tessellations.{TileKind}
 use Rattle.tree_model.specs.Automata.{TreeAutomaton}
-use Rattle.reply_model.specs.declared.Command.{Command}
-use Rattle.reply_model.specs.declared.Reply.{Reply}
-use Rattle.reply_model.specs.WalkReadings.{IsWalkReply}
+use Rattle.line_server.specs.Answering.{over_walks}
+use Rattle.tree_laws.specs.Laws.{OfEachTree}
+use Rattle.line_server.specs.Laws.{OutputsAgree}
 use Rattle.line_server.specs.Lines.{most_of_stream}
-use Rattle.line_server.specs.Outputs.{History}
+use Rattle.line_server.specs.Answering.{Answering}
 use Rattle.line_server.specs.Endings.{IsBegun}
 use Rattle.walker_cli.specs.declared.status.Status.{Status}
 use Rattle.walker_cli.specs.declared.status.Status.TheVariants.{Done, Memory, ReadFault, WriteFault, InputTooLong}
@@ -25,81 +25,81 @@ use Rattle.walker_cli.proofs.OverTree.{stands_over_tree}
 use Rattle.walker_cli.proofs.Streams.{nothing_begun}
 use Rattle.walker_cli.proofs.TableRows.{Says, Streams, between, said_stream, silent, begun}
 
-module _ (run : Run) (due : History → Command → Reply → Type 0) where
-  stream_answered : IsTrue run.source_tells → Streams run due → IsTrue run.sink_tells → length run.before.left ≤ most_of_stream → ((run.status ≡ Done) × OutputStands due run.before.left run.after.left run.before.taken run.after.taken) ⊎ IsOutsideOfStream run.status
+module _ (run : Run) (answering : Answering) where
+  stream_answered : IsTrue run.source_tells → Streams run answering → IsTrue run.sink_tells → length run.before.left ≤ most_of_stream → ((run.status ≡ Done) × OutputStands answering run.before.left run.after.left run.before.taken run.after.taken) ⊎ IsOutsideOfStream run.status
   stream_answered gives (answered is within stands) takes few = inl (is, stands gives takes)
   stream_answered gives (cut_off is stands) takes few = inr (inr is)
   stream_answered gives (over_limit is more stands) takes few = let lt = more gives in absurd (omega (arith, lt, few))
   stream_answered gives (broken_off is stands) takes few = inr (inl (between run is tt))
   stream_answered gives (out_of_memory is stands) takes few = inr (inl (between run is tt))
 
-  stream_over : IsTrue run.source_tells → Streams run due → most_of_stream < length run.before.left → (run.status ≡ InputTooLong) ⊎ IsOutsideOfStream run.status
+  stream_over : IsTrue run.source_tells → Streams run answering → most_of_stream < length run.before.left → (run.status ≡ InputTooLong) ⊎ IsOutsideOfStream run.status
   stream_over gives (answered is within stands) many = let few = within gives in absurd (omega (arith, many, few))
   stream_over gives (cut_off is stands) many = inr (inr is)
   stream_over gives (over_limit is more stands) many = inl is
   stream_over gives (broken_off is stands) many = inr (inl (between run is tt))
   stream_over gives (out_of_memory is stands) many = inr (inl (between run is tt))
 
-  stream_long : IsTrue run.source_tells → Streams run due → run.status ≡ InputTooLong → most_of_stream < length run.before.left
+  stream_long : IsTrue run.source_tells → Streams run answering → run.status ≡ InputTooLong → most_of_stream < length run.before.left
   stream_long gives (answered is within stands) long = absurd (cc (is, long))
   stream_long gives (cut_off is stands) long = absurd (cc (is, long))
   stream_long gives (over_limit is more stands) long = more gives
   stream_long gives (broken_off is stands) long = absurd (cc (is, long))
   stream_long gives (out_of_memory is stands) long = absurd (cc (is, long))
 
-  stream_done : IsTrue run.source_tells → Streams run due → IsTrue run.sink_tells → run.status ≡ Done → OutputStands due run.before.left run.after.left run.before.taken run.after.taken
+  stream_done : IsTrue run.source_tells → Streams run answering → IsTrue run.sink_tells → run.status ≡ Done → OutputStands answering run.before.left run.after.left run.before.taken run.after.taken
   stream_done gives (answered is within stands) takes done = stands gives takes
   stream_done gives (cut_off is stands) takes done = absurd (cc (is, done))
   stream_done gives (over_limit is more stands) takes done = absurd (cc (is, done))
   stream_done gives (broken_off is stands) takes done = absurd (cc (is, done))
   stream_done gives (out_of_memory is stands) takes done = absurd (cc (is, done))
 
-  stream_cut : IsTrue run.source_tells → Streams run due → IsTrue run.sink_tells → run.status ≡ ReadFault → LinesStand due run.before.left run.after.left run.before.taken run.after.taken
+  stream_cut : IsTrue run.source_tells → Streams run answering → IsTrue run.sink_tells → run.status ≡ ReadFault → LinesStand answering run.before.left run.after.left run.before.taken run.after.taken
   stream_cut gives (answered is within stands) takes read = absurd (cc (is, read))
   stream_cut gives (cut_off is stands) takes read = stands gives takes
   stream_cut gives (over_limit is more stands) takes read = absurd (cc (is, read))
   stream_cut gives (broken_off is stands) takes read = absurd (cc (is, read))
   stream_cut gives (out_of_memory is stands) takes read = absurd (cc (is, read))
 
-  stream_refused : IsTrue run.source_tells → Streams run due → IsTrue run.sink_tells → run.status ≡ InputTooLong → RefusalStands due run.before.left run.before.taken run.after.taken
+  stream_refused : IsTrue run.source_tells → Streams run answering → IsTrue run.sink_tells → run.status ≡ InputTooLong → RefusalStands answering run.before.left run.before.taken run.after.taken
   stream_refused gives (answered is within stands) takes long = absurd (cc (is, long))
   stream_refused gives (cut_off is stands) takes long = absurd (cc (is, long))
   stream_refused gives (over_limit is more stands) takes long = stands gives takes
   stream_refused gives (broken_off is stands) takes long = absurd (cc (is, long))
   stream_refused gives (out_of_memory is stands) takes long = absurd (cc (is, long))
 
-  stream_broken : IsTrue run.source_tells → Streams run due → IsTrue run.sink_tells → run.status ≡ WriteFault → BeginningStands due run.before.left run.before.taken run.after.taken
+  stream_broken : IsTrue run.source_tells → Streams run answering → IsTrue run.sink_tells → run.status ≡ WriteFault → BeginningStands answering run.before.left run.before.taken run.after.taken
   stream_broken gives (answered is within stands) takes broke = absurd (cc (is, broke))
   stream_broken gives (cut_off is stands) takes broke = absurd (cc (is, broke))
   stream_broken gives (over_limit is more stands) takes broke = absurd (cc (is, broke))
   stream_broken gives (broken_off is stands) takes broke = stands gives takes
   stream_broken gives (out_of_memory is stands) takes broke = absurd (cc (is, broke))
 
-  stream_wants : IsTrue run.source_tells → Streams run due → IsTrue run.sink_tells → run.status ≡ Memory → IsBegun due [] run.before.left run.before.taken run.after.taken
+  stream_wants : IsTrue run.source_tells → Streams run answering → IsTrue run.sink_tells → run.status ≡ Memory → IsBegun answering [] run.before.left run.before.taken run.after.taken
   stream_wants gives (answered is within stands) takes want = absurd (cc (is, want))
   stream_wants gives (cut_off is stands) takes want = absurd (cc (is, want))
   stream_wants gives (over_limit is more stands) takes want = absurd (cc (is, want))
   stream_wants gives (broken_off is stands) takes want = absurd (cc (is, want))
   stream_wants gives (out_of_memory is stands) takes want = stands gives takes
 
-module _ (run : Run) where
+module _ (run : Run) (outputs_agree : OfEachTree OutputsAgree) where
   -- the commands were answered
-  stream_answers : (kinds : List TileKind) (a : TreeAutomaton) (k : ℕ) → IsTrue run.source_tells → Serves (call_of run) kinds a k → Streams run (IsWalkReply kinds a k) → AnswersStream run kinds a k
+  stream_answers : (kinds : List TileKind) (a : TreeAutomaton) (k : ℕ) → IsTrue run.source_tells → Serves (call_of run) kinds a k → Streams run (over_walks kinds a k) → AnswersStream run kinds a k
   stream_answers kinds a k gives serves ends =
-      let due = IsWalkReply kinds a k in
+      let by_walks = over_walks kinds a k in
       record {
-        answered = stream_answered run due gives ends;
-        answered_over_tree = λ takes few. elim (stream_answered run due gives ends takes few) [
-          | inl done ↦ inl (done.0, stands_over_tree (call_of run) kinds a k run.before.left run.after.left run.before.taken run.after.taken serves done.1)
+        answered = stream_answered run by_walks gives ends;
+        answered_over_tree = λ takes few. elim (stream_answered run by_walks gives ends takes few) [
+          | inl done ↦ inl (done.0, stands_over_tree outputs_agree (call_of run) kinds a k run.before.left run.after.left run.before.taken run.after.taken serves done.1)
           | inr outside ↦ inr outside
         ];
-        refused = stream_over run due gives ends;
-        over_limit = stream_long run due gives ends;
-        at_done = stream_done run due gives ends;
-        at_read_fault = stream_cut run due gives ends;
-        at_input_too_long = stream_refused run due gives ends;
-        at_write_fault = λ takes broke. inl (stream_broken run due gives ends takes broke);
-        at_memory = stream_wants run due gives ends;
+        refused = stream_over run by_walks gives ends;
+        over_limit = stream_long run by_walks gives ends;
+        at_done = stream_done run by_walks gives ends;
+        at_read_fault = stream_cut run by_walks gives ends;
+        at_input_too_long = stream_refused run by_walks gives ends;
+        at_write_fault = λ takes broke. inl (stream_broken run by_walks gives ends takes broke);
+        at_memory = stream_wants run by_walks gives ends;
       }
 
   -- the commands were not read, for a cause of the outside or of memory
@@ -113,7 +113,7 @@ module _ (run : Run) where
     at_read_fault = λ takes read. absurd (unread (ap class_of read));
     at_input_too_long = λ takes long. absurd (unread (ap class_of long));
     at_write_fault = λ takes broke. inr (broken broke);
-    at_memory = λ takes want. nothing_begun (IsWalkReply kinds a k) run.before.left run.before.taken run.after.taken (silent want takes);
+    at_memory = λ takes want. nothing_begun (over_walks kinds a k) run.before.left run.before.taken run.after.taken (silent want takes);
   }
 
   fault_begun : (saying : Saying) → IsFileFault saying → BeginsLine run saying → (role : Role) × BeginsLine run (FileFault role)

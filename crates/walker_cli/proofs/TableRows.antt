@@ -3,10 +3,8 @@ use Rattle.std.proofs.Common.{◌≡◌, ℕ, Bool, IsTrue, List, ◌++◌, code
 use Rattle.tile_model.specs.Tessellations.{TileKind}
 use Rattle.tile_model.specs.Walks.{type_of}
 use Rattle.tree_model.specs.Automata.{TreeAutomaton}
-use Rattle.reply_model.specs.declared.Command.{Command}
-use Rattle.reply_model.specs.declared.Reply.{Reply}
 use Rattle.way_io.specs.Counts.{Rose}
-use Rattle.line_server.specs.Outputs.{History}
+use Rattle.line_server.specs.Answering.{Answering}
 use Rattle.walker_cli.specs.declared.status.Status.{Status}
 use Rattle.walker_cli.specs.declared.status.Status.TheVariants.{Done, Usage as UsageStatus, FileFault as FileFaultStatus, Memory, WriteFault}
 use Rattle.walker_cli.specs.declared.answer.Role.{Role}
@@ -30,8 +28,8 @@ module _ (run : Run) where
   Says saying = SaysLine run.sink_tells saying run.before.taken run.after.taken run.status
 
   -- the stream of this run
-  abbrev pub Streams : (History → Command → Reply → Type 0) → Type 0
-  Streams due = EndsStream run.source_tells run.sink_tells due run.before.left run.after.left run.before.taken run.after.taken run.status
+  abbrev pub Streams : Answering → Type 0
+  Streams answering = EndsStream run.source_tells run.sink_tells answering run.before.left run.after.left run.before.taken run.after.taken run.status
 
   -- a fetch failed in this run
   abbrev pub IsCounted : Type 0
@@ -59,20 +57,20 @@ module _ (run : Run) where
   said_exactly saying status line known (unwritten is part) = unanswered status line (between is tt)
 
   -- of the statuses of lines a stream ends with Done alone
-  stream_class : (due : History → Command → Reply → Type 0) → Streams due → (status : Status) → run.status ≡ status → class_of status ≡ OfLine → IsDone status
-  stream_class due (answered is few stands) status same line = subst IsDone (sym is ∙ same) tt
-  stream_class due (cut_off is stands) status same line = let other : OfStream ≡ OfLine = ap class_of (sym is ∙ same) ∙ line in absurd (cc other)
-  stream_class due (over_limit is more stands) status same line = let other : OfStream ≡ OfLine = ap class_of (sym is ∙ same) ∙ line in absurd (cc other)
-  stream_class due (broken_off is stands) status same line = let other : OfOutside ≡ OfLine = ap class_of (sym is ∙ same) ∙ line in absurd (cc other)
-  stream_class due (out_of_memory is stands) status same line = let other : OfMemory ≡ OfLine = ap class_of (sym is ∙ same) ∙ line in absurd (cc other)
+  stream_class : (answering : Answering) → Streams answering → (status : Status) → run.status ≡ status → class_of status ≡ OfLine → IsDone status
+  stream_class answering (answered is few stands) status same line = subst IsDone (sym is ∙ same) tt
+  stream_class answering (cut_off is stands) status same line = let other : OfStream ≡ OfLine = ap class_of (sym is ∙ same) ∙ line in absurd (cc other)
+  stream_class answering (over_limit is more stands) status same line = let other : OfStream ≡ OfLine = ap class_of (sym is ∙ same) ∙ line in absurd (cc other)
+  stream_class answering (broken_off is stands) status same line = let other : OfOutside ≡ OfLine = ap class_of (sym is ∙ same) ∙ line in absurd (cc other)
+  stream_class answering (out_of_memory is stands) status same line = let other : OfMemory ≡ OfLine = ap class_of (sym is ∙ same) ∙ line in absurd (cc other)
 
   -- no stream ends with the status of a file that could not be read
-  stream_fault : (due : History → Command → Reply → Type 0) → Streams due → run.status ≡ FileFaultStatus → ⊥
-  stream_fault due (answered is few stands) fault = absurd (cc (is, fault))
-  stream_fault due (cut_off is stands) fault = absurd (cc (is, fault))
-  stream_fault due (over_limit is more stands) fault = absurd (cc (is, fault))
-  stream_fault due (broken_off is stands) fault = absurd (cc (is, fault))
-  stream_fault due (out_of_memory is stands) fault = absurd (cc (is, fault))
+  stream_fault : (answering : Answering) → Streams answering → run.status ≡ FileFaultStatus → ⊥
+  stream_fault answering (answered is few stands) fault = absurd (cc (is, fault))
+  stream_fault answering (cut_off is stands) fault = absurd (cc (is, fault))
+  stream_fault answering (over_limit is more stands) fault = absurd (cc (is, fault))
+  stream_fault answering (broken_off is stands) fault = absurd (cc (is, fault))
+  stream_fault answering (out_of_memory is stands) fault = absurd (cc (is, fault))
 
   -- the row of a status of answers other than Done
   pub exactly : EndsRun run → IsTrue run.files_tell → (status : Status) → class_of status ≡ OfLine → (IsDone status → ⊥) → ComesExactly run status

@@ -18,7 +18,8 @@ use Rattle.walker_cli.specs.declared.answer.Saying.{Saying}
 use Rattle.walker_cli.specs.declared.answer.Saying.TheVariants.{Due as DueAnswer, FileFault}
 use Rattle.walker_cli.specs.declared.answer.Answer.{Answer}
 use Rattle.walker_cli.specs.declared.answer.Answer.TheVariants.{TypeTold, Accepted, Usage}
-use Rattle.walker_cli.specs.Tasks.{Task, TellType, CheckRules, RunSession, Ask, IsRunForm, HaveNoForm}
+use Rattle.walker_cli.specs.Tasks.{Task, TellType, CheckRules, RunSession, Ask, IsRunForm}
+use Rattle.walker_cli.specs.Tasks.{HaveNoForm}
 use Rattle.walker_cli.specs.Runs.{Call}
 use Rattle.walker_cli.specs.Held.{Loaded, Refused, Holds, IsTess, IsRules, tess_limit, rules_limit}
 
@@ -105,10 +106,11 @@ pub data IsDue (call : Call) : Answer → Type 0 where
       → Row call.contents task answer
       → IsDue call answer
 
--- The words are `run TESS K --rules RULES`, both files hold what they should within their limits, the
--- automaton meets the twelve conditions, and K is a kind of the tessellation.
+-- The words are `run TESS K --rules RULES`, both files hold what they should within their limits,
+-- the automaton meets the twelve conditions, and K is a kind of the tessellation.
 -- Then the commands of the input are answered.
-pub record Serves (call : Call) (kinds : List TileKind) (automaton : TreeAutomaton) (k : ℕ) : Type 0 where
+pub record Serves (call : Call) (kinds : List TileKind) (automaton : TreeAutomaton) (k : ℕ) :
+    Type 0 where
   pub tess : List ℕ
   pub rules : List ℕ
   pub tess_bytes : List ℕ

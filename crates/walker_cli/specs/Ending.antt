@@ -2,16 +2,15 @@
 use Rattle.std.specs.Prelude.{◌≡◌, ℕ, ◌<◌, ◌≤◌, Bool, IsTrue, List, [], ◌++◌, length}
 use Rattle.tile_model.specs.Tessellations.{TileKind}
 use Rattle.tree_model.specs.Automata.{TreeAutomaton}
-use Rattle.reply_model.specs.declared.Command.{Command}
-use Rattle.reply_model.specs.declared.Reply.{Reply}
-use Rattle.reply_model.specs.WalkReadings.{IsWalkReply}
+use Rattle.line_server.specs.Answering.{over_walks}
 use Rattle.way_io.specs.Counts.{Rose}
 use Rattle.way_io.specs.Pieces.{AppendsPrefix}
 use Rattle.line_server.specs.Lines.{most_of_stream}
-use Rattle.line_server.specs.Outputs.{History}
+use Rattle.line_server.specs.Answering.{Answering}
 use Rattle.line_server.specs.Endings.{IsBegun}
 use Rattle.walker_cli.specs.declared.status.Status.{Status}
-use Rattle.walker_cli.specs.declared.status.Status.TheVariants.{Done, ReadFault, WriteFault, InputTooLong, Memory}
+use Rattle.walker_cli.specs.declared.status.Status.TheVariants.{Done, ReadFault, WriteFault}
+use Rattle.walker_cli.specs.declared.status.Status.TheVariants.{InputTooLong, Memory}
 use Rattle.walker_cli.specs.declared.answer.Answer.{Answer}
 use Rattle.walker_cli.specs.declared.answer.Answer.TheVariants.{Usage}
 use Rattle.walker_cli.specs.declared.answer.Saying.{Saying}
@@ -41,30 +40,30 @@ pub data SaysLine (takes : Bool) (saying : Saying) (taken taken' : List ℕ) (st
 
 -- The commands of a stream were answered, up to where its status says.
 pub data EndsStream
-    (gives takes : Bool) (Due : History → Command → Reply → Type 0)
+    (gives takes : Bool) (answering : Answering)
     (left left' taken taken' : List ℕ) (status : Status) : Type 0 where
   answered :
       status ≡ Done
       → (IsTrue gives → length left ≤ most_of_stream)
-      → (IsTrue gives → IsTrue takes → OutputStands Due left left' taken taken')
-      → EndsStream gives takes Due left left' taken taken' status
+      → (IsTrue gives → IsTrue takes → OutputStands answering left left' taken taken')
+      → EndsStream gives takes answering left left' taken taken' status
   cut_off :
       status ≡ ReadFault
-      → (IsTrue gives → IsTrue takes → LinesStand Due left left' taken taken')
-      → EndsStream gives takes Due left left' taken taken' status
+      → (IsTrue gives → IsTrue takes → LinesStand answering left left' taken taken')
+      → EndsStream gives takes answering left left' taken taken' status
   over_limit :
       status ≡ InputTooLong
       → (IsTrue gives → most_of_stream < length left)
-      → (IsTrue gives → IsTrue takes → RefusalStands Due left taken taken')
-      → EndsStream gives takes Due left left' taken taken' status
+      → (IsTrue gives → IsTrue takes → RefusalStands answering left taken taken')
+      → EndsStream gives takes answering left left' taken taken' status
   broken_off :
       status ≡ WriteFault
-      → (IsTrue gives → IsTrue takes → BeginningStands Due left taken taken')
-      → EndsStream gives takes Due left left' taken taken' status
+      → (IsTrue gives → IsTrue takes → BeginningStands answering left taken taken')
+      → EndsStream gives takes answering left left' taken taken' status
   out_of_memory :
       status ≡ Memory
-      → (IsTrue gives → IsTrue takes → IsBegun Due [] left taken taken')
-      → EndsStream gives takes Due left left' taken taken' status
+      → (IsTrue gives → IsTrue takes → IsBegun answering [] left taken taken')
+      → EndsStream gives takes answering left left' taken taken' status
 
 -- It may be said.
 -- No other answer is due, and no walkers are served, unless it is that a file could not be read.
@@ -101,6 +100,6 @@ pub data EndsRun (run : Run) : Type 0 where
       (kinds : List TileKind) (a : TreeAutomaton) (k : ℕ)
       → (IsTrue run.files_tell → IsSessionOf (call_of run) kinds a k)
       → ¬ AreNotOfRun run.words
-      → EndsStream run.source_tells run.sink_tells (IsWalkReply kinds a k)
+      → EndsStream run.source_tells run.sink_tells (over_walks kinds a k)
       run.before.left run.after.left run.before.taken run.after.taken run.status
       → EndsRun run

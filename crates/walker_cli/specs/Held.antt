@@ -1,8 +1,9 @@
--- What the files hold, where they tell it: a tessellation or rules, or the answer that refuses them.
+-- What the files hold, where they tell it: a tessellation or rules, or the answer that refuses
+-- them.
 use Rattle.std.specs.Prelude.{◌≡◌, ℕ, ◌<◌, ◌≤◌, List, length, Option, Some}
 use Rattle.tile_model.specs.Tessellations.{TileKind}
 use Rattle.tile_model.specs.Validity.{IsValid}
-use Rattle.tile_kinds.specs.declared.fault.KindFault.{KindFault}
+use Rattle.tile_model.specs.declared.fault.KindFault.{KindFault}
 use Rattle.tree_model.specs.Automata.{TreeAutomaton}
 use Rattle.tree_model.specs.Conditions.{IsAccepted}
 use Rattle.tess_text.specs.Grammar.{IsFirstBadLine}
@@ -14,7 +15,8 @@ use Rattle.rules_file.specs.Faults.{IsFirstFault}
 use Rattle.structure_check.specs.Broken.{IsFirstBroken}
 use Rattle.walker_cli.specs.declared.answer.Role.TheVariants.{Tess, Rules}
 use Rattle.walker_cli.specs.declared.answer.Answer.{Answer}
-use Rattle.walker_cli.specs.declared.answer.Answer.TheVariants.{FileTooLong, TessLine, TessKinds, RulesSyntax, RulesShape, Broken}
+use Rattle.walker_cli.specs.declared.answer.Answer.TheVariants.{FileTooLong, TessLine, TessKinds}
+use Rattle.walker_cli.specs.declared.answer.Answer.TheVariants.{RulesSyntax, RulesShape, Broken}
 
 -- the greatest number of bytes of a tessellation file and of a rules file
 abbrev pub tess_limit : ℕ
@@ -25,7 +27,8 @@ rules_limit = 33554432
 
 -- the file holds these bytes, and they are within its limit
 pub record Holds
-    (contents : List ℕ → Option (List ℕ)) (file : List ℕ) (limit : ℕ) (bytes : List ℕ) : Type 0 where
+    (contents : List ℕ → Option (List ℕ)) (file : List ℕ) (limit : ℕ) (bytes : List ℕ) :
+    Type 0 where
   pub content : contents file ≡ Some bytes
   pub within : length bytes ≤ limit
 

@@ -23,8 +23,8 @@ abbrev pub SaysAs : Answer → Plan → Type 0
 SaysAs answer (Say saying) = IsSaidAs answer saying
 SaysAs answer (Serve rules k) = ⊥
 
--- the plan is to serve walkers in the tree of this kind, over these rules, unless a file could not be
--- read
+-- the plan is to serve walkers in the tree of this kind, over these rules, unless a file could not
+-- be read
 abbrev pub ServesOver : List TileKind → TreeAutomaton → ℕ → Plan → Type 0
 ServesOver kinds a k (Say saying) = IsFileFault saying
 ServesOver kinds a k (Serve rules kind) = (rules.kinds ≡ kinds) × (rules.automaton ≡ a) × (kind ≡ k)

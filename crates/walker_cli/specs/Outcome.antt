@@ -4,7 +4,8 @@ use Rattle.way_io.specs.Pieces.{AppendsPrefix}
 use Rattle.walker_cli.specs.declared.status.Status.{Status}
 use Rattle.walker_cli.specs.declared.status.Status.TheVariants.{Memory, WriteFault}
 use Rattle.walker_cli.specs.declared.answer.Answer.{Answer}
-use Rattle.walker_cli.specs.StatusLines.{Class, OfLine, OfOutside, OfStream, OfMemory, class_of, status_of, line_of}
+use Rattle.walker_cli.specs.StatusLines.{Class, OfLine, OfOutside, OfStream, OfMemory, class_of}
+use Rattle.walker_cli.specs.StatusLines.{status_of, line_of}
 use Rattle.tile_model.specs.declared.Letter.{Letter}
 use Rattle.tile_model.specs.Tessellations.{TileKind}
 use Rattle.tile_model.specs.Validity.{IsValid}
@@ -65,8 +66,8 @@ pub record ComesExactly (run : Run) (status : Status) : Type 0 where
       → status_of answer ≡ status
       → Gives run status (line_of answer)
 
--- The words are `kind TESS K LETTERS`, the file holds a spelling of a tessellation within its limit,
--- and K is a kind of it.
+-- The words are `kind TESS K LETTERS`, the file holds a spelling of a tessellation within its
+-- limit, and K is a kind of it.
 -- The line tells the type that the walk leads to from side 0 of kind K.
 pub record TellsType (call : Call) (line : List ℕ) : Type 0 where
   pub tess : List ℕ

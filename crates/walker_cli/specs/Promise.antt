@@ -2,14 +2,17 @@
 use Rattle.std.specs.Prelude.{◌≡◌, ◌⊎◌, ℕ, ◌<◌, ◌≤◌, IsTrue, List, [], length}
 use Rattle.tile_model.specs.Tessellations.{TileKind}
 use Rattle.tree_model.specs.Automata.{TreeAutomaton}
-use Rattle.reply_model.specs.Readings.{IsTreeReply}
-use Rattle.reply_model.specs.WalkReadings.{IsWalkReply}
+use Rattle.line_server.specs.Answering.{over_tree}
+use Rattle.line_server.specs.Answering.{over_walks}
 use Rattle.way_io.specs.Counts.{Rose}
 use Rattle.way_io.specs.Contents.{KeepsAll}
 use Rattle.line_server.specs.Lines.{most_of_stream}
 use Rattle.line_server.specs.Endings.{GivesInOrder, TakesMore, IsBegun}
 use Rattle.walker_cli.specs.declared.status.Status.{Status}
-use Rattle.walker_cli.specs.declared.status.Status.TheVariants.{Done, Usage, FileFault, FileTooLong, TessRefused, RulesText, NotAccepted, Memory, ReadFault, WriteFault, InputTooLong}
+use Rattle.walker_cli.specs.declared.status.Status.TheVariants.{Done, Usage, FileFault, FileTooLong}
+use Rattle.walker_cli.specs.declared.status.Status.TheVariants.{TessRefused, RulesText, NotAccepted}
+use Rattle.walker_cli.specs.declared.status.Status.TheVariants.{Memory, ReadFault, WriteFault}
+use Rattle.walker_cli.specs.declared.status.Status.TheVariants.{InputTooLong}
 use Rattle.walker_cli.specs.declared.answer.Role.{Role}
 use Rattle.walker_cli.specs.declared.answer.Saying.{Saying}
 use Rattle.walker_cli.specs.declared.answer.Saying.TheVariants.{FileFault as FileFaultOf}
@@ -18,7 +21,8 @@ use Rattle.walker_cli.specs.Tasks.{HaveNoForm, AreNotOfRun}
 use Rattle.walker_cli.specs.Runs.{Run, call_of}
 use Rattle.walker_cli.specs.StatusLines.{line_of, fault_line, saying_line}
 use Rattle.walker_cli.specs.Due.{Serves, ServesSome, Fetches, MaySay, IsFileFault}
-use Rattle.walker_cli.specs.Outcome.{Writes, WritesBeginning, WritesNothing, IsOutside, Gives, GivesAtOnce, ComesExactly, TellsType, TellsAccepted}
+use Rattle.walker_cli.specs.Outcome.{Writes, WritesBeginning, WritesNothing, IsOutside, Gives}
+use Rattle.walker_cli.specs.Outcome.{GivesAtOnce, ComesExactly, TellsType, TellsAccepted}
 use Rattle.walker_cli.specs.Serving.{OutputStands, LinesStand, RefusalStands, BeginningStands}
 
 -- the statuses that tell of the outside or of memory, where the input is read
@@ -32,21 +36,24 @@ pub record BeginsLine (run : Run) (saying : Saying) : Type 0 where
   pub counted : IsFileFault saying → Rose run.before.failed_fetches run.after.failed_fetches
   pub written : WritesBeginning run (saying_line saying)
 
--- What becomes of the commands of the input, in a run that serves walkers over this automaton, in the
--- tree of this kind. Its source tells.
-pub record AnswersStream (run : Run) (kinds : List TileKind) (a : TreeAutomaton) (k : ℕ) : Type 0 where
-  -- The promise: Done, and exactly the output of the whole input, unless the outside or memory fails.
+-- What becomes of the commands of the input, in a run that serves walkers over this automaton, in
+-- the tree of this kind.
+-- Its source tells.
+pub record AnswersStream (run : Run) (kinds : List TileKind) (a : TreeAutomaton) (k : ℕ) :
+    Type 0 where
+  -- The promise: Done, and exactly the output of the whole input, unless the outside or memory
+  -- fails.
   pub answered :
       IsTrue run.sink_tells → length run.before.left ≤ most_of_stream
       → ((run.status ≡ Done)
-      × OutputStands (IsWalkReply kinds a k)
+      × OutputStands (over_walks kinds a k)
       run.before.left run.after.left run.before.taken run.after.taken)
       ⊎ IsOutsideOfStream run.status
   -- The same, where it is the tree of the rules that tells which replies are due.
   pub answered_over_tree :
       IsTrue run.sink_tells → length run.before.left ≤ most_of_stream
       → ((run.status ≡ Done)
-      × OutputStands (IsTreeReply kinds a k)
+      × OutputStands (over_tree kinds a k)
       run.before.left run.after.left run.before.taken run.after.taken)
       ⊎ IsOutsideOfStream run.status
   -- InputTooLong comes where the input is over its limit, unless the outside or memory fails.
@@ -57,26 +64,26 @@ pub record AnswersStream (run : Run) (kinds : List TileKind) (a : TreeAutomaton)
   -- What stands written at each status: the output of the whole input,
   pub at_done :
       IsTrue run.sink_tells → run.status ≡ Done
-      → OutputStands (IsWalkReply kinds a k)
+      → OutputStands (over_walks kinds a k)
       run.before.left run.after.left run.before.taken run.after.taken
   -- the output of the whole lines that were read,
   pub at_read_fault :
       IsTrue run.sink_tells → run.status ≡ ReadFault
-      → LinesStand (IsWalkReply kinds a k)
+      → LinesStand (over_walks kinds a k)
       run.before.left run.after.left run.before.taken run.after.taken
   -- the output of the lines within the limit and the line of the status,
   pub at_input_too_long :
       IsTrue run.sink_tells → run.status ≡ InputTooLong
-      → RefusalStands (IsWalkReply kinds a k) run.before.left run.before.taken run.after.taken
+      → RefusalStands (over_walks kinds a k) run.before.left run.before.taken run.after.taken
   -- the beginning of what would otherwise stand,
   pub at_write_fault :
       IsTrue run.sink_tells → run.status ≡ WriteFault
-      → BeginningStands (IsWalkReply kinds a k) run.before.left run.before.taken run.after.taken
+      → BeginningStands (over_walks kinds a k) run.before.left run.before.taken run.after.taken
       ⊎ ((role : Role) × BeginsLine run (FileFaultOf role))
   -- and the beginning of the output.
   pub at_memory :
       IsTrue run.sink_tells → run.status ≡ Memory
-      → IsBegun (IsWalkReply kinds a k) [] run.before.left run.before.taken run.after.taken
+      → IsBegun (over_walks kinds a k) [] run.before.left run.before.taken run.after.taken
 
 -- The words ask for walkers to be served, and where the files tell they hold what is needed for it.
 pub record IsServing (run : Run) : Type 0 where
@@ -104,9 +111,11 @@ pub record TellsWriteFault (run : Run) : Type 0 where
 pub record FollowsTable (run : Run) : Type 0 where
   -- What two forms write, where the files hold what it needs.
   pub kind :
-      IsTrue run.files_tell → (line : List ℕ) → TellsType (call_of run) line → Gives run Done line
+      IsTrue run.files_tell → (line : List ℕ)
+      → TellsType (call_of run) line → Gives run Done line
   pub check :
-      IsTrue run.files_tell → (line : List ℕ) → TellsAccepted (call_of run) line → Gives run Done line
+      IsTrue run.files_tell → (line : List ℕ)
+      → TellsAccepted (call_of run) line → Gives run Done line
   -- The statuses of answers. Done comes so unless the run serves walkers.
   pub done : IsTrue run.files_tell → ServesSome (call_of run) ⊎ ComesExactly run Done
   pub usage : IsTrue run.files_tell → ComesExactly run Usage

@@ -8,8 +8,8 @@ pub record Call : Type 0 where
   pub contents : List ℕ → Option (List ℕ)
 
 -- What the files, the source and the sink tell at one moment.
--- That is what each file holds, which bytes are left to be read, which bytes were taken, and how often
--- each kind of call failed.
+-- That is what each file holds, which bytes are left to be read, which bytes were taken, and how
+-- often each kind of call failed.
 pub record Outside : Type 0 where
   pub contents : List ℕ → Option (List ℕ)
   pub failed_fetches : ℕ

@@ -1,17 +1,26 @@
 -- The statuses of the program, their classes, and the lines that go with them.
 use Rattle.std.specs.Prelude.{ℕ, List, [], ◌∷◌, ◌++◌, codes, decimal}
-use Rattle.tile_kinds.specs.declared.fault.KindFault.{KindFault}
-use Rattle.tile_kinds.specs.declared.fault.KindFault.TheVariants.{Count, Sides, Repeat, Partner, Valence, Involution, Corner}
+use Rattle.tile_model.specs.declared.fault.KindFault.{KindFault}
+use Rattle.tile_model.specs.declared.fault.KindFault.TheVariants.{Count, Sides, Repeat, Partner}
+use Rattle.tile_model.specs.declared.fault.KindFault.TheVariants.{Valence, Involution, Corner}
 use Rattle.rules_file.specs.declared.fault.Part.{Part}
-use Rattle.rules_file.specs.declared.fault.Part.TheVariants.{Whole, Version, Scale, Roots, Corners, Corner as OneCorner, States, State}
+use Rattle.rules_file.specs.declared.fault.Part.TheVariants.{Whole, Version, Scale, Roots, Corners}
+use Rattle.rules_file.specs.declared.fault.Part.TheVariants.{Corner as OneCorner, States, State}
 use Rattle.walker_cli.specs.declared.status.Status.{Status}
-use Rattle.walker_cli.specs.declared.status.Status.TheVariants.{Done, Usage as UsageStatus, FileFault as FileFaultStatus, FileTooLong as FileTooLongStatus, TessRefused, RulesText, NotAccepted, Memory, ReadFault, WriteFault, InputTooLong}
+use Rattle.walker_cli.specs.declared.status.Status.TheVariants.{Done, Usage as UsageStatus}
+use Rattle.walker_cli.specs.declared.status.Status.TheVariants.{FileFault as FileFaultStatus}
+use Rattle.walker_cli.specs.declared.status.Status.TheVariants.{FileTooLong as FileTooLongStatus}
+use Rattle.walker_cli.specs.declared.status.Status.TheVariants.{TessRefused, RulesText, NotAccepted}
+use Rattle.walker_cli.specs.declared.status.Status.TheVariants.{Memory, ReadFault, WriteFault}
+use Rattle.walker_cli.specs.declared.status.Status.TheVariants.{InputTooLong}
 use Rattle.walker_cli.specs.declared.answer.Role.{Role}
 use Rattle.walker_cli.specs.declared.answer.Role.TheVariants.{Tess, Rules}
 use Rattle.walker_cli.specs.declared.answer.Answer.{Answer}
 use Rattle.walker_cli.specs.declared.answer.Saying.{Saying}
 use Rattle.walker_cli.specs.declared.answer.Saying.TheVariants.{Due, FileFault}
-use Rattle.walker_cli.specs.declared.answer.Answer.TheVariants.{TypeTold, Accepted, Usage, FileTooLong, TessLine, TessKinds, RulesSyntax, RulesShape, Broken}
+use Rattle.walker_cli.specs.declared.answer.Answer.TheVariants.{TypeTold, Accepted, Usage}
+use Rattle.walker_cli.specs.declared.answer.Answer.TheVariants.{FileTooLong, TessLine, TessKinds}
+use Rattle.walker_cli.specs.declared.answer.Answer.TheVariants.{RulesSyntax, RulesShape, Broken}
 
 -- the exit status
 abbrev pub code_of : Status → ℕ

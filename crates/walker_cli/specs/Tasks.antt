@@ -1,8 +1,8 @@
 -- What the words of the program ask for.
-use Rattle.std.specs.Prelude.{◌≡◌, ℕ, ◌≤◌, List, [], ◌∷◌, length, codes}
-use Rattle.std.specs.Str.Parse.{IsNumeral, digits_value}
+use Rattle.std.specs.Prelude.{◌≡◌, ℕ, List, [], ◌∷◌, codes}
+use Rattle.short_numbers.specs.Numbers.{IsNumber}
 use Rattle.tile_model.specs.declared.Letter.{Letter}
-use Rattle.walk_words.specs.Text.{walk_text}
+use Rattle.tile_model.specs.WalkTexts.{walk_text}
 
 -- to tell the type that a walk leads to from the start of kind k, to check rules, or to answer the
 -- commands of the input over rules, in the tree of kind k
@@ -10,12 +10,6 @@ pub data Task : Type 0 where
   TellType : (tess : List ℕ) (k : ℕ) (walk : List Letter) → Task
   CheckRules : (tess rules : List ℕ) → Task
   RunSession : (tess : List ℕ) (k : ℕ) (rules : List ℕ) → Task
-
--- one to nine digits with this value
-pub record IsNumber (digits : List ℕ) (n : ℕ) : Type 0 where
-  pub numeral : IsNumeral 10 digits
-  pub short : length digits ≤ 9
-  pub value : digits_value 10 digits ≡ n
 
 -- `kind TESS K LETTERS`
 pub record IsKindForm (words : List (List ℕ)) (tess : List ℕ) (k : ℕ) (walk : List Letter) :

@@ -1,6 +1,8 @@
 //! What a call of the program says, with its status and its line.
 ghost use Rattle.std.specs.Prelude.{◌≡◌, IfOk};
-ghost use Rattle.walker_cli.specs.StatusLines.{status_of, line_of, saying_status, saying_line, fault_line, numbered, kind_fault_line, shape_words_of};
+ghost use Rattle.walker_cli.specs.StatusLines.{status_of, line_of, saying_status, saying_line};
+ghost use Rattle.walker_cli.specs.StatusLines.{fault_line, numbered, kind_fault_line};
+ghost use Rattle.walker_cli.specs.StatusLines.{shape_words_of};
 
 use crate::status::Status;
 use itoa::Buffer;

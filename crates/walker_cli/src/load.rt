@@ -1,14 +1,16 @@
 //! The files that the words name: fetched, read and checked.
-ghost use Rattle.std.specs.Prelude.{◌≡◌, ◌⊎◌, ◌≤◌, ℕ, List, length, IsTrue, IfOk, IfErr, MatchResult, Err};
+ghost use Rattle.std.specs.Prelude.{◌≡◌, ◌⊎◌, ◌≤◌, ℕ, List, length, IsTrue, IfOk, IfErr};
+ghost use Rattle.std.specs.Prelude.{MatchResult, Err};
 ghost use Rattle.tile_model.specs.Tessellations.{TileKind};
 ghost use Rattle.tile_model.specs.Validity.{IsValid};
 ghost use Rattle.tree_model.specs.Automata.{TreeAutomaton};
 ghost use Rattle.way_io.specs.Counts.{Rose};
 ghost use Rattle.way_io.specs.Contents.{KeepsAll};
-ghost use Rattle.walker_cli.specs.Held.{Loaded, Refused, Holds, HoldsTooMany, IsTess, IsRules, broken_at, tess_limit, rules_limit};
+ghost use Rattle.walker_cli.specs.Held.{Loaded, Refused, Holds, HoldsTooMany, IsTess, IsRules};
+ghost use Rattle.walker_cli.specs.Held.{broken_at, tess_limit, rules_limit};
 ghost use Rattle.tess_text.specs.Grammar.{IsFirstBadLine};
 ghost use Rattle.tess_text.specs.Spelling.{IsSpelling, IsRefused};
-ghost use Rattle.tile_kinds.specs.declared.fault.KindFault.{KindFault};
+ghost use Rattle.tile_model.specs.declared.fault.KindFault.{KindFault};
 ghost use Rattle.serde_json.specs.Data.{Data};
 ghost use Rattle.rules_file.specs.declared.fault.Part.{Part};
 ghost use Rattle.rules_file.specs.Spelling.{IsTextOf, IsRulesFile};
@@ -134,7 +136,8 @@ pub fn load_rules<F: Files>(
     ensures too_long { IsTrue F.tells → HoldsTooMany (F.contents files.old) name.now rules_limit
         → MatchResult result (λ _. ⊥) (IsRefusedAs (Answer.FileTooLong Role.Rules)) }
     ensures no_text { IsTrue F.tells → (bytes : List ℕ)
-        → Holds (F.contents files.old) name.now rules_limit bytes → ((d : Data) → ¬ IsTextOf bytes d)
+        → Holds (F.contents files.old) name.now rules_limit bytes
+        → ((d : Data) → ¬ IsTextOf bytes d)
         → MatchResult result (λ _. ⊥) (IsRefusedAs Answer.RulesSyntax) }
     ensures misshapen { IsTrue F.tells → (bytes : List ℕ) (d : Data) (part : Part) (i : ℕ)
         → Holds (F.contents files.old) name.now rules_limit bytes

@@ -18,15 +18,17 @@ use crate::status::Status;
 use std::alloc::Global;
 use way_io::{Files, Sink, Source};
 
-/// Does what the words ask for, writes to `out`, and tells how it ended. Words of the form `run` ask
-/// for the replies to the commands of `input`; all others for one line.
+/// Does what the words ask for, writes to `out`, and tells how it ended. Words of the form `run`
+/// ask for the replies to the commands of `input`; all others for one line.
+///
+/// What the replies mean is a law over replies alone (`reply_laws::laws::names`): the names that two
+/// commands `at` are answered are equal exactly where the walks of their walkers are at the same
+/// tile, and names and spins together exactly where the walks are related.
 ///
 /// `KeepsPromise` says in two records what becomes of the commands and that the table of answers of
 /// `docs/FORMATS.md` is followed: each status comes for its cause alone, and what stands written is
 /// told for each. Of a fault of the outside the count of `files`, `input` or `out` tells; want of
-/// memory may come at any point. What the replies mean is a law over replies alone, in `reply_laws`:
-/// the names that two commands `at` are answered are equal exactly where the walks of their walkers
-/// are at the same tile.
+/// memory may come at any point.
 ///
 /// Words in no form leave the files alone, and `input` is read only where walkers are served.
 pub fn run<F: Files, I: Source, O: Sink>(
@@ -54,6 +56,8 @@ pub fn run<F: Files, I: Source, O: Sink>(
         → input.new ≡ input.old }
     ensures unread_at_fault { result ≡ Status.FileFault → input.new ≡ input.old }
 {
+    // What walks say of the output the tree of the rules says too: a law, that this call cites.
+    line_server::laws::readings();
     carry_out_plan(alloc, words, files, input, out)
 }
 
@@ -76,7 +80,8 @@ fn carry_out_plan<F: Files, I: Source, O: Sink>(
           files.new input.new out.new;
       status = result;
     }) }
-    ensures read_fault { result ≡ Status.ReadFault → Rose (I.faults input.old) (I.faults input.new) }
+    ensures read_fault { result ≡ Status.ReadFault
+        → Rose (I.faults input.old) (I.faults input.new) }
     ensures write_fault { result ≡ Status.WriteFault → Rose (O.faults out.old) (O.faults out.new) }
     ensures taken { IsTrue O.tells → TakesMore (O.taken out.old) (O.taken out.new) }
     ensures contents { IsTrue F.tells → KeepsAll (F.contents files.old) (F.contents files.new) }

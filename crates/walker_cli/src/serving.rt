@@ -1,6 +1,6 @@
 //! The commands of the input, answered.
 ghost use Rattle.std.specs.Prelude.{◌≡◌, ◌<◌, ◌⊎◌, ◌++◌, length, IsTrue};
-ghost use Rattle.reply_model.specs.WalkReadings.{IsWalkReply};
+ghost use Rattle.line_server.specs.Answering.{over_walks};
 ghost use Rattle.way_io.specs.Counts.{Rose};
 ghost use Rattle.way_io.specs.Pieces.{AppendsPrefix};
 ghost use Rattle.line_server.specs.Endings.{GivesInOrder, TakesMore};
@@ -14,8 +14,8 @@ use std::alloc::Global;
 use structure_check::Rules;
 use way_io::{Sink, Source, write_piece};
 
-/// Answers the commands of the input over rules, in the tree of a kind, and tells how that ended. An
-/// input that is too long is told by a line of its own.
+/// Answers the commands of the input over rules, in the tree of a kind, and tells how that ended.
+/// An input that is too long is told by a line of its own.
 pub fn serve_walkers<I: Source, O: Sink>(
     alloc: Global,
     rules: &Rules,
@@ -25,7 +25,7 @@ pub fn serve_walkers<I: Source, O: Sink>(
 ) -> Status
     requires { kind < length rules.now.kinds }
     ensures ends { EndsStream I.tells O.tells
-        (IsWalkReply rules.now.kinds rules.now.automaton kind)
+        (over_walks rules.now.kinds rules.now.automaton kind)
         (I.left input.old) (I.left input.new) (O.taken out.old) (O.taken out.new) result }
     ensures file_fault { result ≡ Status.FileFault → ⊥ }
     ensures read_cause { result ≡ Status.ReadFault

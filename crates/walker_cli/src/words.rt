@@ -1,13 +1,16 @@
 //! The words of the program, and what they ask for.
-ghost use Rattle.std.specs.Prelude.{◌≡◌, ◌≢◌, ◌<◌, ◌^◌, ℕ, List, [], map, Ok, Err, IfOk, IfErr, IfSome, IfNone, IsErrOf, MatchResult, MatchOption};
+ghost use Rattle.std.specs.Prelude.{◌≡◌, ◌≢◌, ◌<◌, ◌^◌, ℕ, List, [], map, Ok, Err, IfOk, IfErr};
+ghost use Rattle.std.specs.Prelude.{IfSome, IfNone, IsErrOf, MatchResult, MatchOption};
 ghost use Rattle.std.specs.IoError.{error_kind};
 ghost use Rattle.std.specs.String.{string_bytes};
 ghost use Rattle.tile_model.specs.declared.Letter.{Letter};
-ghost use Rattle.walk_words.specs.Text.{walk_text};
-ghost use Rattle.walker_cli.specs.Tasks.{Task, RunSession, IsNumber, IsRunForm, Ask, HaveNoForm, AreNotOfRun};
+ghost use Rattle.tile_model.specs.WalkTexts.{walk_text};
+ghost use Rattle.short_numbers.specs.Numbers.{IsNumber};
+ghost use Rattle.walker_cli.specs.Tasks.{Task, RunSession, IsRunForm, Ask, HaveNoForm, AreNotOfRun};
 ghost use Rattle.walker_cli.specs.Forms.{task_of};
 
 use crate::status::Status;
+use short_numbers::read_number;
 use std::alloc::Global;
 use std::io;
 use std::io::ErrorKind;
@@ -70,21 +73,6 @@ pub fn words_read(alloc: Global, read: io::Result<Vec<String>>) -> Result<Vec<St
     Ok(Vec::new(alloc))
 }
 
-/// The number that a text of one to nine digits writes, leading zeros allowed.
-fn number(text: &str) -> Option<u32>
-    ensures some { IfSome result (IsNumber text.now) }
-    ensures none { IfNone result ((n : ℕ) → IsNumber text.now n → ⊥) }
-{
-    let bytes = text.as_bytes();
-    if bytes.is_empty() || bytes.len() > 9 {
-        return None;
-    }
-    if bytes[0] == b'+' {
-        return None;
-    }
-    text.parse::<u32>().ok()
-}
-
 /// The kind and the walk that two words of the form `kind` write.
 fn read_start(alloc: Global, k: &str, letters: &str) -> Result<(u32, Walk), WordsFault>
     ensures ok { IfOk result (λ start. IsNumber k.now start.0 × (walk_text start.1 ≡ letters.now)) }
@@ -92,9 +80,10 @@ fn read_start(alloc: Global, k: &str, letters: &str) -> Result<(u32, Walk), Word
         → IsNumber k.now n → walk_text walk ≡ letters.now → ⊥ }
     ensures complete { (n : ℕ) (walk : List Letter)
         → IsNumber k.now n → walk_text walk ≡ letters.now
-        → MatchResult result (λ start. (start.0 ≡ n) × (start.1 ≡ walk)) (λ e. e ≡ WordsFault.Memory) }
+        → MatchResult result
+        (λ start. (start.0 ≡ n) × (start.1 ≡ walk)) (λ e. e ≡ WordsFault.Memory) }
 {
-    let Some(kind) = number(k) else {
+    let Some(kind) = read_number(k.as_bytes()) else {
         return Err(WordsFault::Usage);
     };
     match read_walk(alloc, letters.as_bytes()) {
@@ -147,7 +136,7 @@ fn read_run<'a>(words: &'a [String]) -> Option<Form<'a>>
     if form.as_str() != "run" || option.as_str() != "--rules" {
         return None;
     }
-    let kind = number(k.as_str())?;
+    let kind = read_number(k.as_str().as_bytes())?;
     Some(Form::Run {
         tess: tess.as_str(),
         kind,

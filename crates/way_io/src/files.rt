@@ -1,5 +1,6 @@
 // Files that are fetched and stored whole, by their names.
-ghost use Rattle.std.specs.Prelude.{◌≡◌, ◌≤◌, ◌<◌, ◌⊎◌, ℕ, List, Bool, length, IfOk, OnOk, IsTrue, IsErrOf, Some, None, Option};
+ghost use Rattle.std.specs.Prelude.{◌≡◌, ◌≤◌, ◌<◌, ◌⊎◌, ℕ, List, Bool, length, IfOk, OnOk, IsTrue};
+ghost use Rattle.std.specs.Prelude.{IsErrOf, Some, None, Option};
 ghost use Rattle.way_io.specs.Counts.{Rose};
 ghost use Rattle.way_io.specs.Contents.{KeepsAll, KeepsOthers, IsLonger};
 

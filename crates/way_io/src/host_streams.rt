@@ -1,5 +1,6 @@
 // Readers and writers of the standard library, as standard input and standard output.
-ghost use Rattle.std.specs.Prelude.{◌≡◌, ◌≤◌, ◌<◌, [], false, length, take, is_err, if◌then◌else◌, IfOk, IfSome};
+ghost use Rattle.std.specs.Prelude.{◌≡◌, ◌≤◌, ◌<◌, [], false, length, take, is_err, if◌then◌else◌};
+ghost use Rattle.std.specs.Prelude.{IfOk, IfSome};
 ghost use Rattle.std.specs.Io.KnownBytes.{Appends, ReadConsumes};
 ghost use Rattle.way_io.specs.Counts.{counted};
 ghost use Rattle.way_io.specs.OfHost.{Counting};

@@ -1,5 +1,6 @@
 // Files in memory.
-ghost use Rattle.std.specs.Prelude.{◌≡◌, ◌↔◌, ◌≤◌, ◌<◌, ◌⊎◌, List, ℕ, true, length, IfOk, OnOk, OnErr, IsErrOf, IsTrue, Some, None, option_copied};
+ghost use Rattle.std.specs.Prelude.{◌≡◌, ◌↔◌, ◌≤◌, ◌<◌, ◌⊎◌, List, ℕ, true, length, IfOk, OnOk};
+ghost use Rattle.std.specs.Prelude.{OnErr, IsErrOf, IsTrue, Some, None, option_copied};
 ghost use Rattle.way_io.specs.Counts.{counted};
 ghost use Rattle.way_io.specs.Calls.{no_calls, one_more, next_fails};
 ghost use Rattle.way_io.specs.Contents.{KeepsAll, KeepsOthers, IsLonger};

@@ -1,5 +1,6 @@
 // A source over bytes in memory.
-ghost use Rattle.std.specs.Prelude.{◌≡◌, ◌≤◌, ◌<◌, ◌↔◌, ◌++◌, [], true, length, take, drop, min, is_err, if◌then◌else◌, IfOk, OnErr};
+ghost use Rattle.std.specs.Prelude.{◌≡◌, ◌≤◌, ◌<◌, ◌↔◌, ◌++◌, [], true, length, take, drop, min};
+ghost use Rattle.std.specs.Prelude.{is_err, if◌then◌else◌, IfOk, OnErr};
 ghost use Rattle.way_io.specs.Counts.{counted};
 ghost use Rattle.way_io.specs.Calls.{no_calls, one_more, next_fails};
 ghost use Rattle.way_io.specs.InMemory.{SourceState};

@@ -4,7 +4,6 @@ use Rattle.tree_model.specs.Automata.{TreeAutomaton}
 use Rattle.tree_model.specs.Conditions.{IsAccepted}
 use Rattle.rules_file.specs.Spelling.{IsTextOf, IsRulesFile}
 use Rattle.structure_check.specs.Broken.{IsFirstBroken}
-use Rattle.structure_check.proofs.First.{refutes}
 use Rattle.walker_cli.specs.declared.answer.Answer.{Answer}
 use Rattle.walker_cli.specs.declared.answer.Answer.TheVariants.{Broken}
 use Rattle.walker_cli.specs.declared.answer.Saying.TheVariants.{Due}
@@ -62,8 +61,7 @@ returns-in-Ok-check-clause-no_text g c = λ told bytes holds none.
 pub returns-in-Ok-check-clause-broken : goal.returns-in-Ok-check-clause-broken
 returns-in-Ok-check-clause-broken g c = λ told bytes a n first second holds file broken.
     let same : c.in-Ok-read_rules.automaton ≡ a = c.in-Ok-read_rules.ensures.complete a (subst (λ (l : List ℕ). IsRulesFile l a) (sym (c.deref.ensures.value ∙ c.in-Ok.ensures.held told bytes holds)) file) in
-    let accepted : IsAccepted c.args.tess a = subst (λ (x : TreeAutomaton). IsAccepted c.args.tess x) same (c.in-Ok-check.ensures.exactly.0 refl) in
-    refutes c.args.tess a n first second broken accepted
+    c.in-Ok-check.ensures.unbroken n first second (subst (λ (x : TreeAutomaton). IsFirstBroken c.args.tess x n first second) (sym same) broken)
 
 pub returns-in-Ok-check-clause-loaded : goal.returns-in-Ok-check-clause-loaded
 returns-in-Ok-check-clause-loaded g c = λ told bytes a holds file accepted.

@@ -3,7 +3,7 @@ use Rattle.walker_cli.proofs.run.run.Goals as goal
 
 pub returns-clause-promise : goal.returns-clause-promise
 returns-clause-promise g c =
-    promise _ c.carry_out_plan.ensures.ends c.carry_out_plan.ensures.read_fault
+    promise c.readings.ensures _ c.carry_out_plan.ensures.ends c.carry_out_plan.ensures.read_fault
     c.carry_out_plan.ensures.write_fault
     (record {
       contents = c.carry_out_plan.ensures.contents;
