@@ -26,8 +26,8 @@ use Rattle.walker_cli.specs.declared.load.Refusal.TheVariants.{Said, Memory}
 use Rattle.walker_cli.specs.Tasks.{Task, TellType, CheckRules, RunSession, Ask, HaveNoForm}
 use Rattle.walker_cli.specs.Held.{Loaded, Refused, Outcome, Holds, HoldsTooMany, IsTess, IsRules, tess_limit, rules_limit, broken_at, tess_too_long, tess_line, tess_kinds, tess_loaded, rules_too_long, rules_syntax, rules_shape, rules_broken, rules_loaded}
 use Rattle.walker_cli.specs.Runs.{Call}
-use Rattle.walker_cli.specs.Due.{Contents, TypeRow, type_no_tess, type_no_kind, type_told, CheckRow, check_no_tess, check_no_rules, check_accepted, Row, IsDue, no_form, by_task, Fetches}
-use Rattle.walker_cli.specs.Loading.{IsRefusedAs, IsOfOutside, IfPlan, IsPlanDue, ServesOver}
+use Rattle.walker_cli.specs.Due.{Contents, TypeRow, type_no_tess, type_no_kind, type_told, CheckRow, check_no_tess, check_no_rules, check_accepted, Row, FetchesFor, IsDue, no_form, by_task}
+use Rattle.walker_cli.specs.Loading.{IsRefusedAs, IsOfOutside, IfPlan, FitsTask, ServesOver}
 use Rattle.tile_model.proofs.WalkTexts.{one_walk}
 
 -- what a refusal that tells of the outside is taken for
@@ -40,10 +40,13 @@ pub outside_serves : (kinds : List TileKind) (a : TreeAutomaton) (k : ℕ) (refu
 outside_serves kinds a k (Said saying) outside = outside
 outside_serves kinds a k Memory outside = tt
 
-pub refusal_due : (call : Call) (refusal : Refusal) → ((answer : Answer) → refusal ≡ Said (Due answer) → IsDue call answer) → ((role : Role) → refusal ≡ Said (FileFault role) → Fetches call role) → IfPlan (Err refusal) (IsPlanDue call)
-refusal_due call (Said (Due answer)) due fetches = due answer refl
-refusal_due call (Said (FileFault role)) due fetches = fetches role refl
-refusal_due call Memory due fetches = tt
+pub refusal_fits : (contents : Contents) (task : Task) (refusal : Refusal)
+    → ((answer : Answer) → refusal ≡ Said (Due answer) → Row contents task answer)
+    → ((role : Role) → refusal ≡ Said (FileFault role) → FetchesFor contents task role)
+    → IfPlan (Err refusal) (FitsTask contents task)
+refusal_fits contents task (Said (Due answer)) row fetches = row answer refl
+refusal_fits contents task (Said (FileFault role)) row fetches = fetches role refl
+refusal_fits contents task Memory row fetches = tt
 
 -- words ask for one task
 pub one_task : (words : List (List ℕ)) (task other : Task) → Ask words task → Ask words other → task ≡ other

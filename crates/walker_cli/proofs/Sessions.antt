@@ -1,5 +1,5 @@
 -- From what the files hold to a session, or to the answer that refuses it.
-use Rattle.std.proofs.Common.{◌≡◌, ℕ, ◌<◌, ◌≤◌, List, Option, Ok, Err, length, refl, sym, ap, subst, arith}
+use Rattle.std.proofs.Common.{◌≡◌, ℕ, ◌<◌, ◌≤◌, List, Option, Result, Ok, Err, length, refl, sym, ap, subst, arith}
 use Rattle.tile_model.specs.Tessellations.{TileKind}
 use Rattle.tile_model.specs.Validity.{IsValid}
 use Rattle.tree_model.specs.Automata.{TreeAutomaton}
@@ -10,11 +10,15 @@ use Rattle.structure_check.specs.Rules.{TreeRules}
 use Rattle.walker_cli.specs.declared.answer.Answer.{Answer}
 use Rattle.walker_cli.specs.declared.answer.Answer.TheVariants.{Usage}
 use Rattle.walker_cli.specs.declared.load.Refusal.{Refusal}
-use Rattle.walker_cli.specs.Tasks.{RunSession, Ask}
+use Rattle.walker_cli.specs.Tasks.{Task, TellType, CheckRules, RunSession, Ask}
 use Rattle.walker_cli.specs.Held.{Loaded, Refused, Outcome, Holds, IsTess, IsRules, tess_limit, rules_limit, tess_too_long, tess_line, tess_kinds, tess_loaded, rules_too_long, rules_syntax, rules_shape, rules_broken, rules_loaded}
 use Rattle.walker_cli.specs.Runs.{Call}
-use Rattle.walker_cli.specs.Due.{Contents, SessionRow, session_no_tess, session_no_kind, session_no_rules, Serves}
-use Rattle.walker_cli.specs.Loading.{IsRefusedAs, IsOfOutside}
+use Rattle.walker_cli.specs.Due.{Contents, SessionRow, session_no_tess, session_no_kind, session_no_rules, by_task, Serves}
+use Rattle.walker_cli.specs.declared.answer.Saying.TheVariants.{Due, FileFault}
+use Rattle.walker_cli.specs.declared.decide.Plan.{Plan}
+use Rattle.walker_cli.specs.declared.decide.Plan.TheVariants.{Say, Serve}
+use Rattle.walker_cli.specs.declared.load.Refusal.TheVariants.{Said, Memory}
+use Rattle.walker_cli.specs.Loading.{IsRefusedAs, IsOfOutside, IfPlan, ServesFor, FitsTask, IsPlanDue}
 use Rattle.walker_cli.proofs.Deciding.{one_task, outside_comes, TessRead, RulesRead, tess_comes, rules_come}
 
 -- the four ways in which the opening of a session ends, where an answer is due
@@ -48,45 +52,25 @@ session_opened contents tess k rules view t tables s known read few (session_no_
     let same : view t ≡ kinds = tess_comes contents tess view (Ok t) known is in
     rules_come contents (view t) rules tables (Ok s) read (subst (λ (ks : List TileKind). IsRules contents ks rules (Refused answer)) (sym same) refused)
 
--- what the files of a session hold, by the names that the words give them
-pub record Opens (call : Call) (tess : List ℕ) (k : ℕ) (rules : List ℕ) (kinds : List TileKind) (a : TreeAutomaton) (k' : ℕ) : Type 0 where
-  pub tess_holds : IsTess call.contents tess (Loaded kinds)
-  pub rules_hold : IsRules call.contents kinds rules (Loaded a)
-  pub is_kind : k < length kinds
-  pub one_kind : k ≡ k'
+-- and where walkers are served
+pub served_unread : {T : Type 0} (contents : Contents) (tess : List ℕ) (k : ℕ) (rules : List ℕ) (kinds : List TileKind) (a : TreeAutomaton) (k' : ℕ) (view : T → List TileKind) (refusal : Refusal) → TessRead {T = T} contents tess view (Err refusal) → ServesFor contents (RunSession tess k rules) kinds a k' → IsOfOutside refusal
+served_unread contents tess k rules kinds a k' view refusal known opened = tess_comes contents tess view (Err refusal) known opened.0
 
-pub opens : (call : Call) (tess : List ℕ) (k : ℕ) (rules : List ℕ) (kinds : List TileKind) (a : TreeAutomaton) (k' : ℕ) → Ask call.words (RunSession tess k rules) → Serves call kinds a k' → Opens call tess k rules kinds a k'
-opens call tess k rules kinds a k' ask serves =
-    let same = one_task call.words (RunSession serves.tess k' serves.rules) (RunSession tess k rules) serves.form ask in
-    let same_tess : serves.tess ≡ tess = cc same in
-    let same_kind : k' ≡ k = cc same in
-    let same_rules : serves.rules ≡ rules = cc same in
-    record {
-      tess_holds = subst (λ (f : List ℕ). IsTess call.contents f (Loaded kinds)) same_tess (tess_loaded serves.tess_bytes kinds serves.holds_tess serves.tess_spelling serves.valid);
-      rules_hold = subst (λ (f : List ℕ). IsRules call.contents kinds f (Loaded a)) same_rules (rules_loaded serves.rules_bytes a serves.holds_rules serves.rules_spelling serves.accepted);
-      is_kind = subst (λ (n : ℕ). n < length kinds) same_kind serves.is_kind;
-      one_kind = sym same_kind;
-    }
-
--- and where the call serves
-pub served_unread : {T : Type 0} (call : Call) (tess : List ℕ) (k : ℕ) (rules : List ℕ) (kinds : List TileKind) (a : TreeAutomaton) (k' : ℕ) (view : T → List TileKind) (refusal : Refusal) → TessRead {T = T} call.contents tess view (Err refusal) → Opens call tess k rules kinds a k' → IsOfOutside refusal
-served_unread call tess k rules kinds a k' view refusal known opened = tess_comes call.contents tess view (Err refusal) known opened.tess_holds
-
-pub served_missing : {T : Type 0} (call : Call) (tess : List ℕ) (k : ℕ) (rules : List ℕ) (kinds : List TileKind) (a : TreeAutomaton) (k' : ℕ) (view : T → List TileKind) (t : T) → TessRead call.contents tess view (Ok t) → length (view t) ≤ k → Opens call tess k rules kinds a k' → ⊥
-served_missing call tess k rules kinds a k' view t known few opened =
-    let same : view t ≡ kinds = tess_comes call.contents tess view (Ok t) known opened.tess_holds in
-    let lt = opened.is_kind in
+pub served_missing : {T : Type 0} (contents : Contents) (tess : List ℕ) (k : ℕ) (rules : List ℕ) (kinds : List TileKind) (a : TreeAutomaton) (k' : ℕ) (view : T → List TileKind) (t : T) → TessRead contents tess view (Ok t) → length (view t) ≤ k → ServesFor contents (RunSession tess k rules) kinds a k' → ⊥
+served_missing contents tess k rules kinds a k' view t known few opened =
+    let same : view t ≡ kinds = tess_comes contents tess view (Ok t) known opened.0 in
+    let lt = opened.2 in
     omega (arith, ap length same, few, lt)
 
-pub served_failed : {T S : Type 0} (call : Call) (tess : List ℕ) (k : ℕ) (rules : List ℕ) (kinds : List TileKind) (a : TreeAutomaton) (k' : ℕ) (view : T → List TileKind) (t : T) (tables : S → TreeAutomaton) (refusal : Refusal) → TessRead call.contents tess view (Ok t) → RulesRead {T = S} call.contents (view t) rules tables (Err refusal) → Opens call tess k rules kinds a k' → IsOfOutside refusal
-served_failed call tess k rules kinds a k' view t tables refusal known read opened =
-    let same : view t ≡ kinds = tess_comes call.contents tess view (Ok t) known opened.tess_holds in
-    rules_come call.contents (view t) rules tables (Err refusal) read (subst (λ (ks : List TileKind). IsRules call.contents ks rules (Loaded a)) (sym same) opened.rules_hold)
+pub served_failed : {T S : Type 0} (contents : Contents) (tess : List ℕ) (k : ℕ) (rules : List ℕ) (kinds : List TileKind) (a : TreeAutomaton) (k' : ℕ) (view : T → List TileKind) (t : T) (tables : S → TreeAutomaton) (refusal : Refusal) → TessRead contents tess view (Ok t) → RulesRead {T = S} contents (view t) rules tables (Err refusal) → ServesFor contents (RunSession tess k rules) kinds a k' → IsOfOutside refusal
+served_failed contents tess k rules kinds a k' view t tables refusal known read opened =
+    let same : view t ≡ kinds = tess_comes contents tess view (Ok t) known opened.0 in
+    rules_come contents (view t) rules tables (Err refusal) read (subst (λ (ks : List TileKind). IsRules contents ks rules (Loaded a)) (sym same) opened.1)
 
-pub served_opened : {T S : Type 0} (call : Call) (tess : List ℕ) (k : ℕ) (rules : List ℕ) (kinds : List TileKind) (a : TreeAutomaton) (k' : ℕ) (view : T → List TileKind) (t : T) (tables : S → TreeAutomaton) (s : S) → TessRead call.contents tess view (Ok t) → RulesRead call.contents (view t) rules tables (Ok s) → Opens call tess k rules kinds a k' → (view t ≡ kinds) × (tables s ≡ a) × (k ≡ k')
-served_opened call tess k rules kinds a k' view t tables s known read opened =
-    let same : view t ≡ kinds = tess_comes call.contents tess view (Ok t) known opened.tess_holds in
-    (same, rules_come call.contents (view t) rules tables (Ok s) read (subst (λ (ks : List TileKind). IsRules call.contents ks rules (Loaded a)) (sym same) opened.rules_hold), opened.one_kind)
+pub served_opened : {T S : Type 0} (contents : Contents) (tess : List ℕ) (k : ℕ) (rules : List ℕ) (kinds : List TileKind) (a : TreeAutomaton) (k' : ℕ) (view : T → List TileKind) (t : T) (tables : S → TreeAutomaton) (s : S) → TessRead contents tess view (Ok t) → RulesRead contents (view t) rules tables (Ok s) → ServesFor contents (RunSession tess k rules) kinds a k' → (view t ≡ kinds) × (tables s ≡ a) × (k ≡ k')
+served_opened contents tess k rules kinds a k' view t tables s known read opened =
+    let same : view t ≡ kinds = tess_comes contents tess view (Ok t) known opened.0 in
+    (same, rules_come contents (view t) rules tables (Ok s) read (subst (λ (ks : List TileKind). IsRules contents ks rules (Loaded a)) (sym same) opened.1), opened.3)
 
 -- what a file holds whose tessellation is loaded
 record HoldsTess (contents : List ℕ → Option (List ℕ)) (file : List ℕ) (kinds : List TileKind) : Type 0 where
@@ -142,6 +126,36 @@ serves_loaded call tess k rules kinds a ask of_tess lt of_rules =
       is_kind = lt;
     }
 
--- a session over what was loaded is due
-pub session_due : (call : Call) (tess : List ℕ) (k : ℕ) (rules : List ℕ) (kinds : List TileKind) (r : TreeRules) → Ask call.words (RunSession tess k rules) → IsTess call.contents tess (Loaded kinds) → k < length kinds → IsRules call.contents kinds rules (Loaded r.automaton) → r.kinds ≡ kinds → Serves call r.kinds r.automaton k
-session_due call tess k rules kinds r ask of_tess lt of_rules same = subst (λ (ks : List TileKind). Serves call ks r.automaton k) (sym same) (serves_loaded call tess k rules kinds r.automaton ask of_tess lt of_rules)
+-- where walkers are served for the task that the words ask for, the call serves them
+pub serves_of : (call : Call) (task : Task) (kinds : List TileKind) (a : TreeAutomaton) (kind : ℕ)
+    → Ask call.words task → ServesFor call.contents task kinds a kind → Serves call kinds a kind
+serves_of call (TellType tess k walk) kinds a kind ask served = absurd served
+serves_of call (CheckRules tess rules) kinds a kind ask served = absurd served
+serves_of call (RunSession tess k rules) kinds a kind ask served =
+    subst (λ (n : ℕ). Serves call kinds a n) served.3
+    (serves_loaded call tess k rules kinds a ask served.0 served.2 served.1)
+
+-- and the other way round
+pub served_for : (call : Call) (task : Task) (kinds : List TileKind) (a : TreeAutomaton) (kind : ℕ)
+    → Ask call.words task → Serves call kinds a kind → ServesFor call.contents task kinds a kind
+served_for call task kinds a kind ask serves =
+    subst (λ (t : Task). ServesFor call.contents t kinds a kind)
+    (one_task call.words (RunSession serves.tess kind serves.rules) task serves.form ask) (
+      tess_loaded serves.tess_bytes kinds serves.holds_tess serves.tess_spelling serves.valid,
+      rules_loaded serves.rules_bytes a serves.holds_rules serves.rules_spelling serves.accepted,
+      serves.is_kind,
+      refl,
+    )
+
+-- a plan that fits the task that the words ask for is due
+pub fit_due : (call : Call) (task : Task) → Ask call.words task → (told : Result Plan Refusal)
+    → IfPlan told (FitsTask call.contents task) → IfPlan told (IsPlanDue call)
+fit_due call task ask (Ok (Say (Due answer))) fits = by_task task answer ask fits
+fit_due call task ask (Ok (Say (FileFault role))) fits =
+    record { task = task; ask = ask; reached = fits }
+fit_due call task ask (Ok (Serve rules k)) fits =
+    serves_of call task rules.kinds rules.automaton k ask fits
+fit_due call task ask (Err (Said (Due answer))) fits = by_task task answer ask fits
+fit_due call task ask (Err (Said (FileFault role))) fits =
+    record { task = task; ask = ask; reached = fits }
+fit_due call task ask (Err Memory) fits = tt

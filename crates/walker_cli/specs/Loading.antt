@@ -11,7 +11,9 @@ use Rattle.walker_cli.specs.declared.decide.Plan.TheVariants.{Say, Serve}
 use Rattle.walker_cli.specs.declared.load.Refusal.{Refusal}
 use Rattle.walker_cli.specs.declared.load.Refusal.TheVariants.{Said, Memory}
 use Rattle.walker_cli.specs.Runs.{Call}
-use Rattle.walker_cli.specs.Due.{IsDue, Serves, MaySay, IsFileFault}
+use Rattle.walker_cli.specs.Tasks.{Task, TellType, CheckRules, RunSession}
+use Rattle.walker_cli.specs.Held.{Loaded, IsTess, IsRules}
+use Rattle.walker_cli.specs.Due.{Contents, Row, FetchesFor, Serves, MaySay, IsFileFault}
 
 -- this answer is said, unless it is said that a file could not be read
 abbrev pub IsSaidAs : Answer → Saying → Type 0
@@ -48,6 +50,22 @@ TellsFault (Serve rules k) = ⊥
 abbrev pub IsPlanDue : Call → Plan → Type 0
 IsPlanDue call (Say saying) = MaySay call saying
 IsPlanDue call (Serve rules k) = Serves call rules.kinds rules.automaton k
+
+-- walkers are served for a task, over these rules and in the tree of this kind
+abbrev pub ServesFor : Contents → Task → List TileKind → TreeAutomaton → ℕ → Type 0
+ServesFor contents (TellType tess k walk) kinds a kind = ⊥
+ServesFor contents (CheckRules tess rules) kinds a kind = ⊥
+ServesFor contents (RunSession tess k rules) kinds a kind =
+    IsTess contents tess (Loaded kinds)
+    × IsRules contents kinds rules (Loaded a)
+    × (k < length kinds)
+    × (k ≡ kind)
+
+-- what the plan says, or over what it serves, fits the rows of the task
+abbrev pub FitsTask : Contents → Task → Plan → Type 0
+FitsTask contents task (Say (Due answer)) = Row contents task answer
+FitsTask contents task (Say (FileFault role)) = FetchesFor contents task role
+FitsTask contents task (Serve rules k) = ServesFor contents task rules.kinds rules.automaton k
 
 -- this holds of the plan that the steps came to, if they came to one
 abbrev pub IfPlan : Result Plan Refusal → (Plan → Type 0) → Type 0

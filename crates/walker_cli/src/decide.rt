@@ -9,9 +9,10 @@ ghost use Rattle.walker_cli.specs.Tasks.{TellType, CheckRules, RunSession, Ask, 
 ghost use Rattle.walker_cli.specs.Tasks.{AreNotOfRun};
 ghost use Rattle.walker_cli.specs.Forms.{task_of};
 ghost use Rattle.walker_cli.specs.Runs.{call_with};
-ghost use Rattle.walker_cli.specs.Due.{IsDue, Serves};
-ghost use Rattle.walker_cli.specs.Loading.{IfPlan, IsPlanDue, SaysAs, ServesOver, SaysSome};
-ghost use Rattle.walker_cli.specs.Loading.{HasKind, TellsFault, Settles};
+ghost use Rattle.walker_cli.specs.Due.{Row, IsDue, Serves};
+ghost use Rattle.walker_cli.specs.Loading.{IfPlan, ServesFor, FitsTask, IsPlanDue, SaysAs};
+ghost use Rattle.walker_cli.specs.Loading.{ServesOver};
+ghost use Rattle.walker_cli.specs.Loading.{SaysSome, HasKind, TellsFault, Settles};
 
 use crate::answer::{Answer, Role, Saying};
 use crate::load::{Refusal, load_rules, load_tess};
@@ -38,12 +39,11 @@ fn tell_type<F: Files>(
     kind: u32,
     walk: &Walk,
 ) -> Result<Plan, Refusal>
-    ensures due { IsTrue F.tells → (words : List (List ℕ))
-        → Ask words (TellType tess.now kind walk.now)
-        → IfPlan result (IsPlanDue (call_with words (F.contents files.old))) }
-    ensures exact { IsTrue F.tells → (words : List (List ℕ)) (answer : Answer)
-        → Ask words (TellType tess.now kind walk.now)
-        → IsDue (call_with words (F.contents files.old)) answer → IfPlan result (SaysAs answer) }
+    ensures due { IsTrue F.tells
+        → IfPlan result (FitsTask (F.contents files.old) (TellType tess.now kind walk.now)) }
+    ensures exact { IsTrue F.tells → (answer : Answer)
+        → Row (F.contents files.old) (TellType tess.now kind walk.now) answer
+        → IfPlan result (SaysAs answer) }
     ensures said { IfOk result SaysSome }
     ensures failed { (r : Role) → result ≡ Err (Refusal.Said (Saying.FileFault r))
         → Rose (F.fetch_faults files.old) (F.fetch_faults files.new) }
@@ -70,12 +70,11 @@ fn check_rules<F: Files>(
     tess: &str,
     rules: &str,
 ) -> Result<Plan, Refusal>
-    ensures due { IsTrue F.tells → (words : List (List ℕ))
-        → Ask words (CheckRules tess.now rules.now)
-        → IfPlan result (IsPlanDue (call_with words (F.contents files.old))) }
-    ensures exact { IsTrue F.tells → (words : List (List ℕ)) (answer : Answer)
-        → Ask words (CheckRules tess.now rules.now)
-        → IsDue (call_with words (F.contents files.old)) answer → IfPlan result (SaysAs answer) }
+    ensures due { IsTrue F.tells
+        → IfPlan result (FitsTask (F.contents files.old) (CheckRules tess.now rules.now)) }
+    ensures exact { IsTrue F.tells → (answer : Answer)
+        → Row (F.contents files.old) (CheckRules tess.now rules.now) answer
+        → IfPlan result (SaysAs answer) }
     ensures said { IfOk result SaysSome }
     ensures failed { (r : Role) → result ≡ Err (Refusal.Said (Saying.FileFault r))
         → Rose (F.fetch_faults files.old) (F.fetch_faults files.new) }
@@ -115,16 +114,13 @@ fn open_session<F: Files>(
     kind: u32,
     rules: &str,
 ) -> Result<Plan, Refusal>
-    ensures due { IsTrue F.tells → (words : List (List ℕ))
-        → Ask words (RunSession tess.now kind rules.now)
-        → IfPlan result (IsPlanDue (call_with words (F.contents files.old))) }
-    ensures exact { IsTrue F.tells → (words : List (List ℕ)) (answer : Answer)
-        → Ask words (RunSession tess.now kind rules.now)
-        → IsDue (call_with words (F.contents files.old)) answer → IfPlan result (SaysAs answer) }
-    ensures serves { IsTrue F.tells
-        → (words : List (List ℕ)) (kinds : List TileKind) (a : TreeAutomaton) (k : ℕ)
-        → Ask words (RunSession tess.now kind rules.now)
-        → Serves (call_with words (F.contents files.old)) kinds a k
+    ensures due { IsTrue F.tells
+        → IfPlan result (FitsTask (F.contents files.old) (RunSession tess.now kind rules.now)) }
+    ensures exact { IsTrue F.tells → (answer : Answer)
+        → Row (F.contents files.old) (RunSession tess.now kind rules.now) answer
+        → IfPlan result (SaysAs answer) }
+    ensures serves { IsTrue F.tells → (kinds : List TileKind) (a : TreeAutomaton) (k : ℕ)
+        → ServesFor (F.contents files.old) (RunSession tess.now kind rules.now) kinds a k
         → IfPlan result (ServesOver kinds a k) }
     ensures kind { IfOk result HasKind }
     ensures failed { (r : Role) → result ≡ Err (Refusal.Said (Saying.FileFault r))
@@ -151,16 +147,13 @@ fn open_session<F: Files>(
 
 /// Does what a form of the words asks for.
 fn carry_out<F: Files>(alloc: Global, form: &Form, files: &mut F) -> Result<Plan, Refusal>
-    ensures due { IsTrue F.tells → (words : List (List ℕ))
-        → Ask words (task_of form.now)
-        → IfPlan result (IsPlanDue (call_with words (F.contents files.old))) }
-    ensures exact { IsTrue F.tells → (words : List (List ℕ)) (answer : Answer)
-        → Ask words (task_of form.now)
-        → IsDue (call_with words (F.contents files.old)) answer → IfPlan result (SaysAs answer) }
-    ensures serves { IsTrue F.tells
-        → (words : List (List ℕ)) (kinds : List TileKind) (a : TreeAutomaton) (k : ℕ)
-        → Ask words (task_of form.now)
-        → Serves (call_with words (F.contents files.old)) kinds a k
+    ensures due { IsTrue F.tells
+        → IfPlan result (FitsTask (F.contents files.old) (task_of form.now)) }
+    ensures exact { IsTrue F.tells → (answer : Answer)
+        → Row (F.contents files.old) (task_of form.now) answer
+        → IfPlan result (SaysAs answer) }
+    ensures serves { IsTrue F.tells → (kinds : List TileKind) (a : TreeAutomaton) (k : ℕ)
+        → ServesFor (F.contents files.old) (task_of form.now) kinds a k
         → IfPlan result (ServesOver kinds a k) }
     ensures kind { IfOk result HasKind }
     ensures said { (words : List (List ℕ)) → Ask words (task_of form.now) → AreNotOfRun words
