@@ -3,3 +3,4 @@ pub mod Numbers
 pub mod Begins
 pub mod Operands
 pub mod Forms
+pub mod Decided

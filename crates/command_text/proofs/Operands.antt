@@ -1,8 +1,8 @@
 -- Bytes behind the first word tell one thing of a shape.
 use Rattle.std.proofs.Common.{◌≡◌, ◌≢◌, ℕ, List, [], ◌∷◌, ◌++◌, refl, sym, ap, ap₂, ◌∙◌, subst}
 use Rattle.tile_model.specs.declared.Letter.{Letter}
-use Rattle.walk_words.specs.Text.{walk_text}
-use Rattle.walk_words.proofs.Codes.{one_walk}
+use Rattle.tile_model.specs.WalkTexts.{walk_text}
+use Rattle.tile_model.proofs.WalkTexts.{one_walk}
 use Rattle.command_text.specs.CommandLines.{space, spaced, IsWalkerNumber, Operands, one_walker, two_walkers, walker_and_walk, AreTold, by_number, by_numbers, by_number_and_letters}
 use Rattle.command_text.specs.Words.{IsInFront, AreToldBy, Shape, walker_alone, walkers, walker_with_walk, shape_of, TellNothing}
 use Rattle.command_text.proofs.Splits.{one_split}

@@ -1,11 +1,12 @@
 -- The lines that spell commands: a word, and then words that say what the command is told.
-use Rattle.std.specs.Prelude.{◌≡◌, ℕ, ◌<◌, ◌≤◌, List, [], ◌∷◌, length, codes}
+use Rattle.std.specs.Prelude.{◌≡◌, ℕ, ◌<◌, List, [], ◌∷◌, codes}
 use Rattle.std.specs.List.{join_with_byte}
-use Rattle.std.specs.Str.Parse.{IsNumeral, digits_value}
+use Rattle.short_numbers.specs.Numbers.{IsNumber}
 use Rattle.tile_model.specs.declared.Letter.{Letter}
 use Rattle.reply_model.specs.declared.Command.{Command}
 use Rattle.reply_model.specs.declared.Command.TheVariants.{New, Go, At, Same}
-use Rattle.walk_words.specs.Text.{walk_text}
+use Rattle.reply_model.specs.Histories.{most_walkers}
+use Rattle.tile_model.specs.WalkTexts.{walk_text}
 
 -- the most bytes of a line
 abbrev pub most_of_line : ℕ
@@ -21,10 +22,8 @@ spaced words = join_with_byte space words
 
 -- one to nine digits that write the number of a walker
 pub record IsWalkerNumber (digits : List ℕ) (w : ℕ) : Type 0 where
-  pub numeral : IsNumeral 10 digits
-  pub short : length digits ≤ 9
-  pub value : digits_value 10 digits ≡ w
-  pub below : w < 64
+  pub number : IsNumber digits w
+  pub below : w < most_walkers
 
 -- what a command is told, by its shape
 pub data Operands : Type 0 where

@@ -2,24 +2,19 @@
 ghost use Rattle.std.specs.Prelude.{◌≡◌, ◌≢◌, ℕ, ◌<◌, ◌≤◌, ◌⊎◌, ◌↔◌, List, length, Err, IfOk, IfErr, IsErrOf, MatchResult};
 ghost use Rattle.reply_model.specs.declared.Command.{Command as CommandData};
 ghost use Rattle.tile_model.specs.declared.Letter.{Letter};
-ghost use Rattle.walk_words.specs.Text.{walk_text};
+ghost use Rattle.tile_model.specs.WalkTexts.{walk_text};
 ghost use Rattle.command_text.specs.CommandLines.{IsWalkerNumber, IsSpelling, SpellsNothing, one_walker, two_walkers, walker_and_walk, most_of_line};
 ghost use Rattle.command_text.specs.Words.{IsInFront, AreToldBy, TellNothing, walker_alone, walkers, walker_with_walk};
 
 use crate::cutting::cut_at;
-use reply_model::Command;
+use reply_model::{Command, WALKERS};
+use short_numbers::read_number;
 use std::alloc::Global;
 use thiserror::Error;
 use walk_words::{Walk, WalkFault, read_walk};
 
 /// The most bytes that a line may have.
 pub const LONGEST_LINE: usize = 8_192;
-
-/// The most digits of the number of a walker.
-const MOST_DIGITS: usize = 9;
-
-/// How many numbers of walkers there are: they go from 0 to 63.
-const WALKERS: u32 = 64;
 
 /// Why no command was read.
 #[derive(Clone, Copy, Debug, PartialEq, Eq, Error)]
@@ -160,18 +155,8 @@ fn walker(word: &[u8]) -> Result<u8, LineFault>
     ensures err { IfErr result (λ fault. fault ≡ LineFault.Bad) }
     ensures none { IfErr result (λ _. (w : ℕ) → ¬ (IsWalkerNumber word.now w)) }
 {
-    if word.is_empty() || word.len() > MOST_DIGITS {
-        return Err(LineFault::Bad);
+    match read_number(word) {
+        Some(w) if w < u32::from(WALKERS) => Ok(w as u8),
+        _ => Err(LineFault::Bad),
     }
-    let mut value: u32 = 0;
-    for byte in word {
-        let Some(digit) = char::from(*byte).to_digit(10) else {
-            return Err(LineFault::Bad);
-        };
-        value = value.saturating_mul(10).saturating_add(digit);
-    }
-    if value >= WALKERS {
-        return Err(LineFault::Bad);
-    }
-    Ok(value as u8)
 }

@@ -3,6 +3,7 @@
 
 mod command;
 mod cutting;
+pub mod laws;
 mod reply;
 #[cfg(test)]
 mod tests;

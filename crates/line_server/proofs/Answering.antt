@@ -7,9 +7,8 @@ use Rattle.reply_model.specs.declared.Command.TheVariants.{New, Go, At, Same}
 use Rattle.reply_model.specs.declared.Reply.{Reply}
 use Rattle.command_text.specs.CommandLines.{Operands, one_walker, two_walkers, walker_and_walk, AreTold, by_number, by_numbers, by_number_and_letters, IsSpelling, SpellsNothing, most_of_line}
 use Rattle.command_text.specs.Replies.{reply_text}
-use Rattle.session_core.specs.Sessions.{SessionState, HasNumbers}
-use Rattle.session_core.specs.WalkSessions.{StandsForWalks}
-use Rattle.line_server.specs.Answering.{History}
+use Rattle.session_core.specs.Sessions.{SessionState, HasNumbers, StandsForWalks}
+use Rattle.reply_model.specs.Histories.{History, most_walkers}
 use Rattle.line_server.specs.Outputs.{IsAnswered, too_long, empty, bad, replied, too_long_text, bad_text}
 use Rattle.line_server.specs.Outboxes.{HasSaid, HasBroken}
 use Rattle.line_server.specs.Sessions.{answering_of, AnswersLine, DuesLine}
@@ -36,9 +35,9 @@ no_bytes (byte ∷ bytes) none = absurd (omega (arith, none))
 
 -- what a line tells a command are numbers of walkers
 abbrev AreNumbers : Operands → Type 0
-AreNumbers (one_walker w) = w < 64
-AreNumbers (two_walkers w v) = (w < 64) × (v < 64)
-AreNumbers (walker_and_walk w walk) = w < 64
+AreNumbers (one_walker w) = w < most_walkers
+AreNumbers (two_walkers w v) = (w < most_walkers) × (v < most_walkers)
+AreNumbers (walker_and_walk w walk) = w < most_walkers
 
 are_numbers : {told : Operands} {words : List (List ℕ)} → AreTold told words → AreNumbers told
 are_numbers (by_number w digits is) = is.below

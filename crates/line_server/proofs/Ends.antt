@@ -2,14 +2,13 @@
 use Rattle.std.proofs.Common.{◌≡◌, ℕ, ◌+◌, ◌<◌, ◌≤◌, Bool, IsTrue, List, [], ◌∷◌, ◌++◌, length, refl, sym, ap, ◌∙◌, subst, arith}
 use Rattle.std.proofs.lemmas.List.{append_assoc, append-nil, length-append}
 use Rattle.way_io.specs.Pieces.{AppendsPrefix}
-use Rattle.session_core.specs.Sessions.{SessionState}
-use Rattle.session_core.specs.WalkSessions.{StandsForWalks}
+use Rattle.session_core.specs.Sessions.{SessionState, StandsForWalks}
 use Rattle.line_server.specs.declared.outbox.Stop.{Stop}
 use Rattle.line_server.specs.declared.outbox.Stop.TheVariants.{Write, Memory as NoMemory}
 use Rattle.line_server.specs.declared.stream.Ending.{Ending}
 use Rattle.line_server.specs.declared.stream.Ending.TheVariants.{Done, ReadFault, InputTooLong}
 use Rattle.line_server.specs.Lines.{most_of_stream}
-use Rattle.line_server.specs.Answering.{History}
+use Rattle.reply_model.specs.Histories.{History}
 use Rattle.line_server.specs.Outputs.{IsOutput, of_lines, of_all}
 use Rattle.line_server.specs.Sessions.{Continues, answering_of}
 use Rattle.line_server.specs.Endings.{GivesInOrder, IsServed, IsCutOff, IsOverrun, IsBegun}

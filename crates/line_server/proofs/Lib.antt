@@ -8,3 +8,10 @@ pub mod LastLine
 pub mod Serving
 pub mod Ends
 pub mod Pieces
+pub mod Once
+pub mod OneOutput
+pub mod SameOutput
+pub mod SomeOutput
+pub mod Due
+pub mod Interleaving
+pub mod Streams

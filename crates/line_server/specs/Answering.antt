@@ -4,13 +4,10 @@ use Rattle.tile_model.specs.Tessellations.{TileKind}
 use Rattle.tree_model.specs.Automata.{TreeAutomaton}
 use Rattle.reply_model.specs.declared.Command.{Command}
 use Rattle.reply_model.specs.declared.Reply.{Reply}
-use Rattle.reply_model.specs.Readings.{IsTreeReply}
+use Rattle.reply_model.specs.Histories.{History}
 use Rattle.reply_model.specs.WalkReadings.{IsWalkReply}
+use Rattle.reply_model.specs.TreeReadings.{IsTreeReply}
 use Rattle.command_text.specs.Replies.{reply_text}
-
--- commands with their replies
-abbrev pub History : Type 0
-History = List (Command × Reply)
 
 pub record Answering : Type 1 where
   -- the reply is due to the command after the history

@@ -3,7 +3,8 @@
 use Rattle.std.specs.Prelude.{◌≡◌, ◌≢◌, ℕ, ◌≤◌, List, [], ◌++◌, length}
 use Rattle.way_io.specs.Pieces.{AppendsPrefix}
 use Rattle.line_server.specs.Lines.{most_of_stream}
-use Rattle.line_server.specs.Answering.{History, Answering}
+use Rattle.reply_model.specs.Histories.{History}
+use Rattle.line_server.specs.Answering.{Answering}
 use Rattle.line_server.specs.Outputs.{IsLinesOutput, IsOutput, IsFrontOutput}
 
 -- the source gave its bytes in their order

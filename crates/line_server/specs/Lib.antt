@@ -6,4 +6,4 @@ pub mod Outboxes
 pub mod Sessions
 pub mod Readers
 pub mod Serving
--- pub mod Laws
+pub mod Laws

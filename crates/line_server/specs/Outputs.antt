@@ -5,7 +5,8 @@ use Rattle.reply_model.specs.declared.Reply.{Reply}
 use Rattle.command_text.specs.CommandLines.{IsSpelling, most_of_line}
 use Rattle.command_text.specs.Replies.{line_feed}
 use Rattle.line_server.specs.Lines.{AreCut, text_of, most_of_stream}
-use Rattle.line_server.specs.Answering.{History, Answering}
+use Rattle.reply_model.specs.Histories.{History}
+use Rattle.line_server.specs.Answering.{Answering}
 
 -- the lines that answer a line that is too long, and one that spells no command
 abbrev pub too_long_text : List ℕ

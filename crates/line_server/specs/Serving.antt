@@ -1,14 +1,13 @@
 -- How the work on a stream ended, whatever its source and its sink tell.
 use Rattle.std.specs.Prelude.{◌≡◌, ◌≢◌, ℕ, ◌≤◌, Bool, IsTrue, List, [], ◌++◌, length}
 use Rattle.way_io.specs.Pieces.{AppendsPrefix}
-use Rattle.session_core.specs.Sessions.{SessionState}
-use Rattle.session_core.specs.WalkSessions.{StandsForWalks}
+use Rattle.session_core.specs.Sessions.{SessionState, StandsForWalks}
 use Rattle.line_server.specs.declared.stream.Ending.{Ending}
 use Rattle.line_server.specs.declared.stream.Ending.TheVariants.{Done, ReadFault, InputTooLong, WriteFault, Memory}
 use Rattle.line_server.specs.declared.outbox.Stop.{Stop}
 use Rattle.line_server.specs.declared.outbox.Stop.TheVariants.{Write, Memory as NoMemory}
 use Rattle.line_server.specs.Lines.{most_of_stream}
-use Rattle.line_server.specs.Answering.{History}
+use Rattle.reply_model.specs.Histories.{History}
 use Rattle.line_server.specs.Outputs.{IsLinesOutput, IsOutput, IsFrontOutput}
 use Rattle.line_server.specs.Sessions.{Continues, answering_of}
 

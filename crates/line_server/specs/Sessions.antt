@@ -1,8 +1,8 @@
 -- What a session goes through while it answers lines.
 use Rattle.std.specs.Prelude.{◌≡◌, ℕ, List}
-use Rattle.session_core.specs.Sessions.{SessionState}
-use Rattle.session_core.specs.WalkSessions.{StandsForWalks}
-use Rattle.line_server.specs.Answering.{History, Answering, over_walks}
+use Rattle.session_core.specs.Sessions.{SessionState, StandsForWalks}
+use Rattle.reply_model.specs.Histories.{History}
+use Rattle.line_server.specs.Answering.{Answering, over_walks}
 use Rattle.line_server.specs.Outputs.{IsAnswered, AreAnswered}
 
 -- the answers over the rules and the kind of the session, by what walks say

@@ -2,7 +2,7 @@
 #![tactic(auto)]
 
 mod answer;
-// pub mod laws;
+pub mod laws;
 mod lines;
 mod outbox;
 mod reader;

@@ -1,9 +1,9 @@
 //! The stream from its source to its sink.
 ghost use Rattle.std.specs.Prelude.{◌≡◌, ◌≤◌, ◌<◌, [], ℕ, List, length, IsTrue};
 ghost use Rattle.way_io.specs.Counts.{Rose};
-ghost use Rattle.session_core.specs.WalkSessions.{StandsForWalks};
+ghost use Rattle.session_core.specs.Sessions.{StandsForWalks};
 ghost use Rattle.line_server.specs.Lines.{most_of_stream};
-ghost use Rattle.line_server.specs.Answering.{History};
+ghost use Rattle.reply_model.specs.Histories.{History};
 ghost use Rattle.line_server.specs.Sessions.{Continues, answering_of};
 ghost use Rattle.line_server.specs.Serving.{EndsAs, ending_of};
 ghost use Rattle.line_server.specs.Endings.{IsServed, IsCutOff, IsOverrun, IsBegun, GivesInOrder, TakesMore};
