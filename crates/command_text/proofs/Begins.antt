@@ -8,13 +8,19 @@ take_front [] rest = refl
 take_front (byte ∷ front) rest = ap (λ (l : List ℕ). byte ∷ l) (take_front front rest)
 
 pub begins_more : (bytes front more : List ℕ) → bytes ≡ front ++ more → Begins bytes front
-begins_more bytes front more is = ap (λ (l : List ℕ). take (length front) l) is ∙ take_front front more
+begins_more bytes front more is =
+    ap (λ (l : List ℕ). take (length front) l) is ∙ take_front front more
 
 -- bytes that begin with some that begin with others begin with those
-pub begins_on : (bytes middle front : List ℕ) → Begins bytes middle → Begins middle front → Begins bytes front
+pub begins_on :
+    (bytes middle front : List ℕ) → Begins bytes middle → Begins middle front → Begins bytes front
 begins_on bytes middle front late early =
-    let outer : bytes ≡ middle ++ drop (length middle) bytes = sym (take-append-drop (length middle) bytes) ∙ ap (λ (l : List ℕ). l ++ drop (length middle) bytes) late in
-    let inner : middle ≡ front ++ drop (length front) middle = sym (take-append-drop (length front) middle) ∙ ap (λ (l : List ℕ). l ++ drop (length front) middle) early in
+    let outer : bytes ≡ middle ++ drop (length middle) bytes =
+      sym (take-append-drop (length middle) bytes)
+      ∙ ap (λ (l : List ℕ). l ++ drop (length middle) bytes) late in
+    let inner : middle ≡ front ++ drop (length front) middle =
+      sym (take-append-drop (length front) middle)
+      ∙ ap (λ (l : List ℕ). l ++ drop (length front) middle) early in
     begins_more bytes front (drop (length front) middle ++ drop (length middle) bytes)
     (outer ∙ ap (λ (l : List ℕ). l ++ drop (length middle) bytes) inner ∙ append_assoc front (drop (length front) middle) (drop (length middle) bytes))
 
@@ -27,10 +33,12 @@ if_err (Ok x) p = tt
 if_err (Err e) p = p
 
 -- what follows from what holds of a value, and what follows from what holds after an error
-pub on_ok : {T E : Type 0} {P Q : T → Type 0} (r : Result T E) → ((x : T) → P x → Q x) → IfOk r P → IfOk r Q
+pub on_ok :
+    {T E : Type 0} {P Q : T → Type 0} (r : Result T E) → ((x : T) → P x → Q x) → IfOk r P → IfOk r Q
 on_ok (Ok x) f p = f x p
 on_ok (Err e) f p = tt
 
-pub on_if_err : {T E : Type 0} {P Q : Type 0} (r : Result T E) → (P → Q) → IfErr r (λ _. P) → IfErr r (λ _. Q)
+pub on_if_err :
+    {T E : Type 0} {P Q : Type 0} (r : Result T E) → (P → Q) → IfErr r (λ _. P) → IfErr r (λ _. Q)
 on_if_err (Ok x) f p = tt
 on_if_err (Err e) f p = f p

@@ -101,32 +101,49 @@ pub unique : (line : List ℕ) (c d : Command) → IsSpelling line c → IsSpell
 unique line c d is also =
     let p = parts line c is in
     let q = parts line d also in
-    let same = one_split space (word_of c) (word_of d) p.rest q.rest (lacks_space c) (lacks_space d) (sym p.text ∙ q.text) in
-    let shape = sym (has_shape c) ∙ ap (λ (word : List ℕ). (form word).shape) same.0 ∙ has_shape d in
-    let told = one_told q.rest (operands_of c) (operands_of d) (subst (λ (l : List ℕ). AreToldBy l (operands_of c)) same.1 p.told) q.told shape in
-    ap (the_command c) (sym (is_made c) ∙ ap₂ (λ (word : List ℕ) (o : Operands). (form word).make o) same.0 told ∙ is_made d)
+    let same =
+      one_split space (word_of c) (word_of d) p.rest q.rest (lacks_space c) (lacks_space d)
+      (sym p.text ∙ q.text) in
+    let shape =
+      sym (has_shape c) ∙ ap (λ (word : List ℕ). (form word).shape) same.0 ∙ has_shape d in
+    let told =
+      one_told q.rest (operands_of c) (operands_of d)
+      (subst (λ (l : List ℕ). AreToldBy l (operands_of c)) same.1 p.told) q.told shape in
+    ap (the_command c)
+    (sym (is_made c) ∙ ap₂ (λ (word : List ℕ) (o : Operands). (form word).make o) same.0 told ∙ is_made d)
 
 -- a first word, and behind it what the command is told
-pub spells : (line word rest : List ℕ) (c : Command) → line ≡ word ++ space ∷ rest → word ≡ word_of c → AreToldBy rest (operands_of c) → IsSpelling line c
+pub spells :
+    (line word rest : List ℕ) (c : Command) → line ≡ word ++ space ∷ rest → word ≡ word_of c
+    → AreToldBy rest (operands_of c) → IsSpelling line c
 spells line word rest c e is told = record {
   words = told.words;
   told = told.told;
-  text = e ∙ ap₂ (λ (a b : List ℕ). a ++ space ∷ b) is told.text ∙ sym (behind_word (word_of c) told.told);
+  text =
+      e
+      ∙ ap₂ (λ (a b : List ℕ). a ++ space ∷ b) is told.text
+      ∙ sym (behind_word (word_of c) told.told);
 }
 
 module _ (line word rest : List ℕ) (e : line ≡ word ++ space ∷ rest) (lacks : Lacks space word) where
   -- a first word, and behind it nothing of its shape
-  pub tells_nothing : (known : List ℕ) → word ≡ known → TellNothing rest (form known).shape → SpellsNothing line
+  pub tells_nothing :
+      (known : List ℕ) → word ≡ known → TellNothing rest (form known).shape → SpellsNothing line
   tells_nothing known is none = λ c spelt.
       let p = parts line c spelt in
-      let same = one_split space (word_of c) word p.rest rest (lacks_space c) lacks (sym p.text ∙ e) in
-      none (operands_of c) (sym (has_shape c) ∙ ap (λ (l : List ℕ). (form l).shape) (same.0 ∙ is)) (subst (λ (l : List ℕ). AreToldBy l (operands_of c)) same.1 p.told)
+      let same =
+        one_split space (word_of c) word p.rest rest (lacks_space c) lacks (sym p.text ∙ e) in
+      none (operands_of c) (sym (has_shape c) ∙ ap (λ (l : List ℕ). (form l).shape) (same.0 ∙ is))
+      (subst (λ (l : List ℕ). AreToldBy l (operands_of c)) same.1 p.told)
 
   -- a word that begins no line of a command
-  pub unknown : word ≢ codes "new" → word ≢ codes "go" → word ≢ codes "at" → word ≢ codes "same" → SpellsNothing line
+  pub unknown :
+      word ≢ codes "new" → word ≢ codes "go" → word ≢ codes "at" → word ≢ codes "same"
+      → SpellsNothing line
   unknown not_new not_go not_at not_same = λ c spelt.
       let p = parts line c spelt in
-      let same = one_split space (word_of c) word p.rest rest (lacks_space c) lacks (sym p.text ∙ e) in
+      let same =
+        one_split space (word_of c) word p.rest rest (lacks_space c) lacks (sym p.text ∙ e) in
       no_word c (sym same.0)
     where
       no_word : (c : Command) → word ≢ word_of c
@@ -142,7 +159,10 @@ one_word line lacks = λ c spelt.
     lacks_none space line (word_of c) p.rest lacks p.text
 
 -- what is read without being told wrongly is what is spelt
-pub complete : (line : List ℕ) (r : Result Command LineFault) → IfOk r (IsSpelling line) → (IsErrOf r Bad → SpellsNothing line) → r ≢ Err TooLong → (c : Command) → IsSpelling line c → MatchResult r (λ read. read ≡ c) (λ fault. fault ≡ Memory)
+pub complete :
+    (line : List ℕ) (r : Result Command LineFault) → IfOk r (IsSpelling line)
+    → (IsErrOf r Bad → SpellsNothing line) → r ≢ Err TooLong → (c : Command) → IsSpelling line c
+    → MatchResult r (λ read. read ≡ c) (λ fault. fault ≡ Memory)
 complete line (Ok read) spelt none short c is = unique line read c spelt is
 complete line (Err TooLong) spelt none short c is = absurd (short refl)
 complete line (Err Bad) spelt none short c is = absurd (none refl c is)

@@ -20,5 +20,7 @@ pub walker_lacks : (digits : List ℕ) (w : ℕ) → IsWalkerNumber digits w →
 walker_lacks digits w is = digits_lack digits is.number.numeral.1
 
 -- a number of a walker is written by its digits alone
-pub one_number : (digits others : List ℕ) (w v : ℕ) → digits ≡ others → IsWalkerNumber digits w → IsWalkerNumber others v → w ≡ v
+pub one_number :
+    (digits others : List ℕ) (w v : ℕ) → digits ≡ others → IsWalkerNumber digits w
+    → IsWalkerNumber others v → w ≡ v
 one_number digits others w v same is is' = cc (same, is.number.value, is'.number.value)

@@ -32,4 +32,5 @@ shape_of (walker_and_walk w walk) = walker_with_walk
 
 -- the bytes tell nothing of this shape
 abbrev pub TellNothing : List ℕ → Shape → Type 0
-TellNothing bytes shape = (operands : Operands) → shape_of operands ≡ shape → ¬ (AreToldBy bytes operands)
+TellNothing bytes shape =
+    (operands : Operands) → shape_of operands ≡ shape → ¬ (AreToldBy bytes operands)

@@ -34,7 +34,7 @@ pub enum LineFault {
 ///
 /// The forms are `new W`, `go W LETTERS`, `at W` and `same W V`, with exactly one space between two
 /// words.
-/// W and V are numbers of walkers: one to nine digits, leading zeros allowed, with a value from 0 to
+/// W and V are numbers of walkers: one to nine digits, leading zeros allowed, of a value from 0 to
 /// 63.
 /// LETTERS is the text of a walk.
 /// Only the letters of a walk take memory.

@@ -10,5 +10,5 @@ mod tests;
 
 pub use command::{LONGEST_LINE, LineFault, read_line};
 pub use cutting::cut_at;
-pub use reply::{bad_line, print_reply, too_long_line, write_reply};
+pub use reply::{bad_line, too_long_line, write_reply};
 pub use reply_model::{Bytes, Command, Reply};

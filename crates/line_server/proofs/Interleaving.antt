@@ -11,7 +11,7 @@ use Rattle.command_text.specs.Laws.{LinesSpellOne}
 use Rattle.line_server.specs.Lines.{text_of}
 use Rattle.line_server.specs.Answering.{Answering}
 use Rattle.line_server.specs.Outputs.{IsAnswered, too_long, empty, bad, replied, AreAnswered, none, next}
-use Rattle.line_server.specs.Laws.{Spells, HaveMoves, no_lines, spelling, other, StreamsInterleave}
+use Rattle.line_server.specs.Laws.{Spells, HaveMoves, no_lines, spells_one, spells_none, StreamsInterleave}
 use Rattle.line_server.proofs.OneOutput.{nothing_spelt}
 use Rattle.line_server.proofs.Due.{lines_stay_due}
 
@@ -47,14 +47,14 @@ module _ (answering : Answering) (one : LinesSpellOne) where
   -- the moves among the lines are those that they lead to
   moves_of : {before after : History} {lines : List (List ℕ)} {answers : List ℕ} {ms : List Command} → HaveMoves lines ms → AreAnswered answering before lines answers after → moves after ≡ moves before ++ ms
   moves_of no_lines (none history) = sym (append-nil (moves history))
-  moves_of (spelling _ _ c ms s h) (next before between after line answer lines answers a rest) =
+  moves_of (spells_one _ _ c ms s h) (next before between after line answer lines answers a rest) =
       let it = of_spelling c s a in
       moves_of h rest
       ∙ ap (λ (g : History). moves g ++ ms) it.longer
       ∙ ap (λ (l : List Command). l ++ ms) (moves_append before ((c, it.reply) ∷ []))
       ∙ append_assoc (moves before) (moves ((c, it.reply) ∷ [])) ms
       ∙ ap (λ (l : List Command). moves before ++ (l ++ ms)) (append-nil (as_move c))
-  moves_of (other _ _ ms n h) (next before between after line answer lines answers a rest) =
+  moves_of (spells_none _ _ ms n h) (next before between after line answer lines answers a rest) =
       moves_of h rest ∙ ap (λ (g : History). moves g ++ ms) (of_none n a)
 
   pub streams_interleave :
@@ -62,7 +62,7 @@ module _ (answering : Answering) (one : LinesSpellOne) where
       → ((x : Reply) (bytes others : List ℕ) → answering.HasText x bytes → answering.HasText x others → bytes ≡ others)
       → InterleavingsAgree answering.IsDue
       → StreamsInterleave answering
-  streams_interleave one_reply one_text agree lines others ms first second answers replies after another a b c line other answer reply next following asks s t said also =
+  streams_interleave one_reply one_text agree lines others ms first second answers replies after another a b c line other answer reply then following asks s t said also =
       let here = of_spelling c s said in
       let there = of_spelling c t also in
       let same : moves after ≡ moves another = moves_of first a ∙ sym (moves_of second b) in

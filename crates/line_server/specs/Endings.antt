@@ -1,5 +1,6 @@
 -- How far a stream was answered when the work on it ended.
--- `left` and `taken` are what the source had left and the sink had taken before; `left'` and `taken'` are what they have afterwards.
+-- `left` and `taken` are what the source had left and the sink had taken before,
+-- `left'` and `taken'` what they have afterwards.
 use Rattle.std.specs.Prelude.{◌≡◌, ◌≢◌, ℕ, ◌≤◌, List, [], ◌++◌, length}
 use Rattle.way_io.specs.Pieces.{AppendsPrefix}
 use Rattle.line_server.specs.Lines.{most_of_stream}
@@ -26,7 +27,8 @@ module _ (answering : Answering) (before : History) where
     pub output : IsOutput answering before left out after
     pub written : taken' ≡ taken ++ out
 
-  -- Some bytes were read, within the limit, and the output of the lines among them that line feeds end was written.
+  -- Some bytes were read, within the limit.
+  -- The output was written of the lines among them that line feeds end.
   pub record IsCutOff (left left' taken taken' : List ℕ) (after : History) : Type 0 where
     pub bytes : List ℕ
     pub read : left ≡ bytes ++ left'

@@ -23,12 +23,12 @@ pub record Spells (line : List ℕ) (c : Command) : Type 0 where
 -- The commands that make and move walkers among those that the lines spell, in their order.
 pub data HaveMoves : List (List ℕ) → List Command → Type 0 where
   no_lines : HaveMoves [] []
-  spelling :
+  spells_one :
       (line : List ℕ) (lines : List (List ℕ)) (c : Command) (moves : List Command)
       → Spells line c
       → HaveMoves lines moves
       → HaveMoves (line ∷ lines) (as_move c ++ moves)
-  other :
+  spells_none :
       (line : List ℕ) (lines : List (List ℕ)) (moves : List Command)
       → ((c : Command) → ¬ (Spells line c))
       → HaveMoves lines moves
@@ -54,7 +54,7 @@ module _ (answering : Answering) where
       → IsOutput answering before bytes out after
       → Begins out front
 
-  -- Where the stream is over the limit, it begins the output of the lines that end within the limit.
+  -- Where the stream is over the limit, it begins the output of the lines that end within it.
   abbrev pub FrontsBeginWithinLimit : Type 0
   FrontsBeginWithinLimit =
       (before : History) (bytes first more front out : List ℕ) (after : History)
@@ -73,9 +73,9 @@ module _ (answering : Answering) where
       → IsOutput answering before bytes out after
       → AreDue answering.IsDue after
 
-  -- Two streams may have the same lines that make and move walkers, in the same order, whatever other
-  -- lines come between. Then two lines that ask for the place of one walker, each behind as many of
-  -- these lines of its stream, have one answer.
+  -- Two streams may have the same lines that make and move walkers, in the same order, whatever
+  -- other lines come between. Then two lines that ask for the place of one walker, each behind as
+  -- many of these lines of its stream, have one answer.
   abbrev pub StreamsInterleave : Type 0
   StreamsInterleave =
       (lines others : List (List ℕ)) (moves : List Command)

@@ -26,6 +26,7 @@ pub record AreCut (bytes : List ℕ) (lines : List (List ℕ)) (rest : List ℕ)
   pub whole : All LacksFeed lines
   pub open_end : LacksFeed rest
 
--- The text of a line that a line feed ends: the line without the carriage return that stands last in it, if one does.
+-- The text of a line that a line feed ends: the line without the carriage return that stands last
+-- in it, if one does.
 abbrev pub text_of : List ℕ → List ℕ
 text_of line = strip_carriage_return line

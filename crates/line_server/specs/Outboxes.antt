@@ -1,5 +1,6 @@
 -- What an outbox says: the sink takes some of it at once, and the rest waits to be written.
--- `taken` and `waiting` are what the sink had taken and what waited before, `taken'` and `waiting'` afterwards.
+-- `taken` and `waiting` are what the sink had taken and what waited before,
+-- `taken'` and `waiting'` what it has taken and what waits afterwards.
 use Rattle.std.specs.Prelude.{◌≡◌, ℕ, Bool, IsTrue, List, ◌++◌}
 use Rattle.way_io.specs.Pieces.{AppendsPrefix}
 
@@ -11,4 +12,5 @@ pub record HasSaid (tells : Bool) (taken waiting bytes taken' waiting' : List �
 
 -- Something failed on the way: of what was said and of the bytes the sink took a prefix.
 abbrev pub HasBroken : (tells : Bool) (taken waiting bytes taken' : List ℕ) → Type 0
-HasBroken tells taken waiting bytes taken' = IsTrue tells → AppendsPrefix taken taken' (waiting ++ bytes)
+HasBroken tells taken waiting bytes taken' =
+    IsTrue tells → AppendsPrefix taken taken' (waiting ++ bytes)

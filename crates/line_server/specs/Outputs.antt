@@ -22,7 +22,8 @@ SpellsNothing text = (c : Command) → ¬ IsSpelling text c
 module _ (answering : Answering) where
   -- What a line with this text is answered with after a history, and the history behind it.
   -- The line is measured before its text is read.
-  pub data IsAnswered (history : History) (line text : List ℕ) : (answer : List ℕ) (after : History) → Type 0 where
+  pub data IsAnswered (history : History) (line text : List ℕ)
+      : (answer : List ℕ) (after : History) → Type 0 where
     too_long :
         most_of_line < length line
         → IsAnswered history line text too_long_text history
@@ -44,10 +45,13 @@ module _ (answering : Answering) where
         → IsAnswered history line text answer (history ++ (c, x) ∷ [])
 
   -- What lines that line feeds end are answered with, one after the other.
-  pub data AreAnswered : (before : History) (lines : List (List ℕ)) (answers : List ℕ) (after : History) → Type 0 where
+  pub data AreAnswered
+      : (before : History) (lines : List (List ℕ)) (answers : List ℕ) (after : History)
+      → Type 0 where
     none : (history : History) → AreAnswered history [] [] history
     next :
-        (before between after : History) (line answer : List ℕ) (lines : List (List ℕ)) (answers : List ℕ)
+        (before between after : History) (line answer : List ℕ)
+        (lines : List (List ℕ)) (answers : List ℕ)
         → IsAnswered before line (text_of line) answer between
         → AreAnswered between lines answers after
         → AreAnswered before (line ∷ lines) (answer ++ answers) after

@@ -47,8 +47,11 @@ pub record HasReplied (tells : Bool) (old : SessionState) (line text taken waiti
   pub session : AnswersLine old new line text answer
 
 -- it was not, and of the answer nothing or the beginning is written
-pub data HasFailed (tells : Bool) (old : SessionState) (line text taken waiting taken' : List ℕ) : Type 0 where
-  nothing : HasBroken tells taken waiting [] taken' → HasFailed tells old line text taken waiting taken'
+pub data HasFailed (tells : Bool) (old : SessionState)
+    (line text taken waiting taken' : List ℕ) : Type 0 where
+  nothing :
+      HasBroken tells taken waiting [] taken'
+      → HasFailed tells old line text taken waiting taken'
   partly :
       (answer : List ℕ)
       → DuesLine old line text answer
@@ -82,7 +85,8 @@ pub record HasRead (tells : Bool) (old : SessionState) (bytes taken : List ℕ)
   pub answered : HasAnsweredLines tells old bytes taken new line taken'
 
 -- The work ended early: the beginning of what is due to some first lines is written.
-pub record HasStopped (tells : Bool) (old : SessionState) (bytes taken taken' : List ℕ) : Type 0 where
+pub record HasStopped (tells : Bool) (old : SessionState)
+    (bytes taken taken' : List ℕ) : Type 0 where
   pub lines : List (List ℕ)
   pub rest : List ℕ
   pub split : bytes ≡ ended lines ++ rest

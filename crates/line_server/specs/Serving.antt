@@ -25,10 +25,12 @@ abbrev pub AnswersWholeLines : SessionState → SessionState → (bytes out : Li
 AnswersWholeLines old new bytes out =
     Continues old new (λ before after. IsLinesOutput (answering_of old) before bytes out after)
 
--- This is the output of some first lines of the stream, after each history that the session stands for.
+-- This is the output of some first lines of the stream, after each history that the session stands
+-- for.
 abbrev pub DuesFront : SessionState → (left out : List ℕ) → Type 0
 DuesFront old left out =
-    (before : History) → StandsForWalks old before → IsFrontOutput (answering_of old) before left out
+    (before : History) → StandsForWalks old before
+    → IsFrontOutput (answering_of old) before left out
 
 module _ (gives takes : Bool) (old : SessionState) (left taken : List ℕ)
     (new : SessionState) (left' taken' : List ℕ) where

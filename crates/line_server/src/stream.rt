@@ -45,14 +45,16 @@ pub fn serve<I: Source, O: Sink>(
     input: &mut I,
     out: &mut O,
 ) -> Ending
-    // What stands at each ending, after each history for which the session stood. The session stands
-    // then for a longer one.
+    // What stands at each ending, after each history for which the session stood.
+    // The session stands then for a longer one.
     ensures done { IsTrue I.tells → IsTrue O.tells → result ≡ Ending.Done
         → Continues session.old session.new (λ before after. IsServed (answering_of session.old)
-            before (I.left input.old) (I.left input.new) (O.taken out.old) (O.taken out.new) after) }
+            before (I.left input.old) (I.left input.new)
+            (O.taken out.old) (O.taken out.new) after) }
     ensures read_fault { IsTrue I.tells → IsTrue O.tells → result ≡ Ending.ReadFault
         → Continues session.old session.new (λ before after. IsCutOff (answering_of session.old)
-            before (I.left input.old) (I.left input.new) (O.taken out.old) (O.taken out.new) after) }
+            before (I.left input.old) (I.left input.new)
+            (O.taken out.old) (O.taken out.new) after) }
     ensures input_too_long { IsTrue I.tells → IsTrue O.tells → result ≡ Ending.InputTooLong
         → Continues session.old session.new (λ before after. IsOverrun (answering_of session.old)
             before (I.left input.old) (O.taken out.old) (O.taken out.new) after) }
@@ -61,7 +63,8 @@ pub fn serve<I: Source, O: Sink>(
         → IsBegun (answering_of session.old)
             before (I.left input.old) (O.taken out.old) (O.taken out.new) }
 
-    // Why it ended so. Of a read or a write that failed the count of faults tells, which never falls.
+    // Why it ended so.
+    // Of a read or a write that failed the count of faults tells, which never falls.
     ensures ended { IsTrue I.tells → result ≡ Ending.Done
         → (I.left input.new ≡ []) × (length (I.left input.old) ≤ most_of_stream) }
     ensures overrun { IsTrue I.tells → result ≡ Ending.InputTooLong

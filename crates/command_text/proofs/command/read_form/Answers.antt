@@ -10,24 +10,31 @@ returns-in_default-clause-bad c = λ _. one_word c.args.line.now c.in_default.en
 pub returns-in_err-read_walker-clause-bad : goal.returns-in_err-read_walker-clause-bad
 returns-in_err-read_walker-clause-bad c = λ _.
     let is : c.in-Some.word.now ≡ codes "new" = search rules in
-    tells_nothing c.args.line.now c.in-Some.word.now c.in-Some.rest.now c.in-Some.ensures.split c.in-Some.ensures.first (codes "new") is c.in_err-read_walker.ensures.bad
+    tells_nothing c.args.line.now c.in-Some.word.now c.in-Some.rest.now c.in-Some.ensures.split
+    c.in-Some.ensures.first (codes "new") is c.in_err-read_walker.ensures.bad
 
 pub returns-in_err-w-clause-bad : goal.returns-in_err-w-clause-bad
 returns-in_err-w-clause-bad c = λ is_bad.
     let is : c.in-Some.word.now ≡ codes "go" = search rules in
     let bad : c.in_err-w.field-0.0 ≡ Bad = search (rules, is_bad) in
-    tells_nothing c.args.line.now c.in-Some.word.now c.in-Some.rest.now c.in-Some.ensures.split c.in-Some.ensures.first (codes "go") is (c.read_walker_and_walk.ensures.bad (c.in_err-w.was ∙ ap (λ (f : LineFault). Err f) bad))
+    tells_nothing c.args.line.now c.in-Some.word.now c.in-Some.rest.now c.in-Some.ensures.split
+    c.in-Some.ensures.first (codes "go") is
+    (c.read_walker_and_walk.ensures.bad (c.in_err-w.was ∙ ap (λ (f : LineFault). Err f) bad))
 
 pub returns-in_err-read_walker-2-clause-bad : goal.returns-in_err-read_walker-2-clause-bad
 returns-in_err-read_walker-2-clause-bad c = λ _.
     let is : c.in-Some.word.now ≡ codes "at" = search rules in
-    tells_nothing c.args.line.now c.in-Some.word.now c.in-Some.rest.now c.in-Some.ensures.split c.in-Some.ensures.first (codes "at") is c.in_err-read_walker-2.ensures.bad
+    tells_nothing c.args.line.now c.in-Some.word.now c.in-Some.rest.now c.in-Some.ensures.split
+    c.in-Some.ensures.first (codes "at") is c.in_err-read_walker-2.ensures.bad
 
 pub returns-in_err-w-2-clause-bad : goal.returns-in_err-w-2-clause-bad
 returns-in_err-w-2-clause-bad c = λ _.
     let is : c.in-Some.word.now ≡ codes "same" = search rules in
-    tells_nothing c.args.line.now c.in-Some.word.now c.in-Some.rest.now c.in-Some.ensures.split c.in-Some.ensures.first (codes "same") is c.in_err-w-2.ensures.bad
+    tells_nothing c.args.line.now c.in-Some.word.now c.in-Some.rest.now c.in-Some.ensures.split
+    c.in-Some.ensures.first (codes "same") is c.in_err-w-2.ensures.bad
 
 pub returns-clause-bad : goal.returns-clause-bad
 returns-clause-bad c = λ _.
-    unknown c.args.line.now c.in-Some.word.now c.in-Some.rest.now c.in-Some.ensures.split c.in-Some.ensures.first (λ e. search (rules, e)) (λ e. search (rules, e)) (λ e. search (rules, e)) (λ e. search (rules, e))
+    unknown c.args.line.now c.in-Some.word.now c.in-Some.rest.now c.in-Some.ensures.split
+    c.in-Some.ensures.first (λ e. search (rules, e)) (λ e. search (rules, e))
+    (λ e. search (rules, e)) (λ e. search (rules, e))

@@ -15,4 +15,5 @@ returns-in_err-v-clause-bad c =
 
 pub returns-clause-ok : goal.returns-clause-ok
 returns-clause-ok c =
-    tells_walkers c.args.bytes.now c.in_ok-w.second.now c.in_ok-w.w c.in_ok-v.v c.in_ok-w.ensures.ok c.in_ok-v.ensures.ok
+    tells_walkers c.args.bytes.now c.in_ok-w.second.now c.in_ok-w.w c.in_ok-v.v c.in_ok-w.ensures.ok
+    c.in_ok-v.ensures.ok

@@ -17,4 +17,5 @@ returns-in_err-walk-clause-bad c = λ is_bad.
 
 pub returns-clause-ok : goal.returns-clause-ok
 returns-clause-ok c =
-    tells_walk c.args.bytes.now c.in_ok-w.text.now c.in_ok-w.w c.in_ok-walk.walk c.in_ok-w.ensures.ok c.in_ok-walk.ensures.ok
+    tells_walk c.args.bytes.now c.in_ok-w.text.now c.in_ok-w.w c.in_ok-walk.walk
+    c.in_ok-w.ensures.ok c.in_ok-walk.ensures.ok
