@@ -87,7 +87,8 @@ impl Name {
         self.sides.as_slice()
     }
 
-    /// Puts a side, from 0 to 63, at a place below `len`. All other places keep theirs. It takes no memory.
+    /// Puts a side, from 0 to 63, at a place below `len`. All other places keep theirs. It takes no
+    /// memory.
     pub fn set(&mut self, at: usize, side: u8)
         requires place { at < length self.old }
         requires below { side < 64 }
@@ -96,8 +97,8 @@ impl Name {
         self.sides.as_mut_slice()[at] = side;
     }
 
-    /// Keeps the first `kept` sides, at most `len` of them, and puts other sides behind them, each from 0 to 63. Out of memory the name is
-    /// as it was.
+    /// Keeps the first `kept` sides, at most `len` of them, and puts other sides behind them, each
+    /// from 0 to 63. Out of memory the name is as it was.
     pub fn rejoin(&mut self, kept: usize, sides: &[u8]) -> Result<(), AllocError>
         requires kept { kept ≤ length self.old }
         requires below { IsName sides.now }

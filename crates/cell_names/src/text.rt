@@ -33,7 +33,8 @@ impl From<AllocError> for NameFault {
     }
 }
 
-/// The text of a name of any length: `-` for the root, else its sides joined by `.`. It spells this name and no other.
+/// The text of a name of any length: `-` for the root, else its sides joined by `.`. It spells this
+/// name and no other.
 pub fn print_name(alloc: Global, name: &Name) -> Result<Vec<u8>, AllocError>
     ensures text { IfOk result (λ text. text.items ≡ name_text name.now) }
     ensures spelling { IfOk result (λ text. IsSpelling text.items name.now) }
@@ -44,7 +45,8 @@ pub fn print_name(alloc: Global, name: &Name) -> Result<Vec<u8>, AllocError>
     Ok(text)
 }
 
-/// Appends the text of a name of any length, which spells this name and no other. Out of memory the bytes are as they were.
+/// Appends the text of a name of any length, which spells this name and no other. Out of memory the
+/// bytes are as they were.
 #[tactic(auto, using(crate::proofs::Reading::spells_no_other))]
 pub fn write_name(out: &mut Vec<u8>, name: &Name) -> Result<(), AllocError>
     ensures written { OnOk result (out.new.items ≡ out.old.items ++ name_text name.now) }
@@ -55,7 +57,8 @@ pub fn write_name(out: &mut Vec<u8>, name: &Name) -> Result<(), AllocError>
     let Some((first, others)) = name.sides().split_first() else {
         return out.extend_from_slice(b"-");
     };
-    // Two digits and a dot a side. All the room is taken here, so that no byte below has to ask for more.
+    // Two digits and a dot a side. All the room is taken here, so that no byte below has to ask for
+    // more.
     let Some(room) = name.len().checked_mul(3) else {
         return Err(AllocError);
     };
@@ -85,7 +88,8 @@ fn put_side(out: &mut Vec<u8>, side: u8)
     out.push_reserved(b'0' + side % 10);
 }
 
-/// Reads the text of a name of at most 4,000 sides, each from 0 to 63 in digits without leading zeros.
+/// Reads the text of a name of at most 4,000 sides, each from 0 to 63 in digits without leading
+/// zeros.
 ///
 /// The text of a longer name is `Deep`. What is the text of no name is `Text`, however long it is.
 pub fn read_name(alloc: Global, bytes: &[u8]) -> Result<Name, NameFault>
@@ -105,7 +109,8 @@ pub fn read_name(alloc: Global, bytes: &[u8]) -> Result<Name, NameFault>
         → IsErrOf result NameFault.Deep ⊎ IsErrOf result NameFault.Memory }
 
     // No bytes spell two names.
-    ensures unique { (name other : List ℕ) → IsSpelling bytes.now name → IsSpelling bytes.now other → name ≡ other }
+    ensures unique { (name other : List ℕ) → IsSpelling bytes.now name → IsSpelling bytes.now other
+        → name ≡ other }
 {
     if bytes == b"-".as_slice() {
         return Ok(Name::root(alloc));
@@ -148,7 +153,8 @@ fn take_side(bytes: &[u8]) -> Option<(u8, &[u8])>
     ensures below { IfSome result (λ taken. taken.0 < 64) }
     ensures split { IfSome result (λ taken. bytes.now ≡ decimal taken.0 ++ taken.1.now) }
     ensures shorter { IfSome result (λ taken. length taken.1.now < length bytes.now) }
-    ensures complete { (side : ℕ) (tail : List ℕ) → side < 64 → bytes.now ≡ decimal side ++ tail → NoDigit tail
+    ensures complete { (side : ℕ) (tail : List ℕ) → side < 64 → bytes.now ≡ decimal side ++ tail
+        → NoDigit tail
         → IsSomeAnd result (λ taken. (taken.0 ≡ side) × (taken.1.now ≡ tail)) }
 {
     let (tens, behind_tens) = take_digit(bytes)?;

@@ -12,12 +12,14 @@ use rules_data::{Automaton, Claim, Corner, Rule, State};
 use serde_json::{Value, json};
 use std::alloc::{AllocError, Global};
 
-/// The canonical text: compact JSON with the members of the format alone, in byte order of their names, and a line feed. It is a rules
-/// file of this automaton and of no other. Only want of memory refuses it.
+/// The canonical text: compact JSON with the members of the format alone, in byte order of their
+/// names, and a line feed. It is a rules file of this automaton and of no other. Only want of
+/// memory refuses it.
 pub fn print_rules(alloc: Global, a: &Automaton) -> Result<Vec<u8>, AllocError>
     ensures canonical { IfOk result (λ v. v.items ≡ rules_text a.now) }
     ensures spelling { IfOk result (λ v. IsRulesFile v.items a.now) }
-    ensures of_no_other { IfOk result (λ v. (b : TreeAutomaton) → IsRulesFile v.items b → b ≡ a.now) }
+    ensures of_no_other { IfOk result
+        (λ v. (b : TreeAutomaton) → IsRulesFile v.items b → b ≡ a.now) }
 {
     let json = to_json(alloc, a)?;
     line(alloc, &json)
@@ -40,7 +42,13 @@ fn to_json(alloc: Global, a: &Automaton) -> Result<Value, AllocError>
     let corners = list(alloc, &a.corners)?;
     let roots = list(alloc, &a.roots)?;
     let states = list(alloc, &a.states)?;
-    json!(in alloc; {"corners": corners, "roots": roots, "scale": a.scale, "states": states, "version": 1u32})
+    json!(in alloc; {
+        "corners": corners,
+        "roots": roots,
+        "scale": a.scale,
+        "states": states,
+        "version": 1u32
+    })
 }
 
 /// A value that is printed as JSON.

@@ -15,7 +15,8 @@ pub use texts::{
     PENTAGONS_RULES, PENTAGONS_TESS,
 };
 
-/// The rules that two texts of fewer than 2^32 - 1 bytes spell, where both are good, there are so many kinds, and memory suffices.
+/// The rules that two texts of fewer than 2^32 - 1 bytes spell, where both are good, there are so
+/// many kinds, and memory suffices.
 pub fn spelled_rules(alloc: Global, tess: &str, rules: &str, kinds: u16) -> Option<Rules>
     requires tess { length tess.now < 2 ^ 32 - 1 }
     requires rules { length rules.now < 2 ^ 32 - 1 }
@@ -46,7 +47,8 @@ pub fn heptagons(alloc: Global) -> Option<Rules>
     spelled_rules(alloc, HEPTAGONS_TESS, HEPTAGONS_RULES, 1)
 }
 
-/// Heptagons, kind 0, and hexagons, kind 1, three tiles round each corner. None only for want of memory.
+/// Heptagons, kind 0, and hexagons, kind 1, three tiles round each corner. None only for want of
+/// memory.
 pub fn heptagons_and_hexagons(alloc: Global) -> Option<Rules>
     ensures kinds { IfSome result (λ r. length r.kinds ≡ 2) }
     ensures sound { IfSome result AreSound }

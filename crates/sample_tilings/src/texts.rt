@@ -31,7 +31,8 @@ pub const HEPTAGONS_RULES: &str = "\
     \"R\",1,1,2,\"L\"]},{\"claims\":[[0,2],[1,2],[0,1],[0,1],[1,1],[0,0],[1,0]],\"kind\":0,\
     \"off\":0,\"rules\":[\"P\",\"R\",\"R\",1,2,\"L\",\"L\"]}],\"version\":1}\n";
 
-/// The tessellation file of heptagons and hexagons, three tiles round each corner, each heptagon between hexagons.
+/// The tessellation file of heptagons and hexagons, three tiles round each corner, each heptagon
+/// between hexagons.
 pub const HEPTAGONS_AND_HEXAGONS_TESS: &str = "\
     tess 1\n\
     kind 0 7 1\n\
@@ -42,7 +43,8 @@ pub const HEPTAGONS_AND_HEXAGONS_TESS: &str = "\
     corner 1 0 3\n\
     corner 1 1 3\n";
 
-/// The rules file of heptagons and hexagons, three tiles round each corner, each heptagon between hexagons.
+/// The rules file of heptagons and hexagons, three tiles round each corner, each heptagon between
+/// hexagons.
 pub const HEPTAGONS_AND_HEXAGONS_RULES: &str = "\
     {\"corners\":[{\"h\":[0,-1,0],\"outer\":[1,1],\"rank\":1},{\"h\":[0,-1,-1],\"outer\":[0,\
     0],\"rank\":0}],\"roots\":[0,1],\"scale\":2,\"states\":[{\"claims\":[[0,1],[0,1],[0,1],\

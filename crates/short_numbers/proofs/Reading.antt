@@ -1,9 +1,9 @@
 -- Reading a number digit by digit, and its two definitions, which are one.
-use Rattle.std.proofs.Common.{◌≡◌, ℕ, ◌+◌, ◌*◌, ◌-◌, ◌<◌, ◌≤◌, ◌^◌, Bool, true, false, inl, inr, List, [], ◌∷◌, length, take, get_or, nat_lt, nat_le, ◌&&◌, refl, sym, ◌∙◌, ap, subst, arith, length-take, None, Some}
-use Rattle.std.specs.Prelude.{◌↔◌, Option}
+use Rattle.std.proofs.Common.{◌≡◌, ℕ, ◌+◌, ◌*◌, ◌-◌, ◌<◌, ◌≤◌, ◌^◌, true, false, inl, inr, List, length, take, get_or, refl, sym, ◌∙◌, ap, subst, arith, length-take, None, Some}
+use Rattle.std.specs.Prelude.{Option}
 use Rattle.std.specs.Char.{digit_value, is_ascii_digit}
 use Rattle.std.specs.Str.{all_ascii_digits}
-use Rattle.std.specs.Str.Parse.{IsNumeral, AllDigits, digits_value}
+use Rattle.std.specs.Str.Parse.{AllDigits, digits_value}
 use Rattle.std.proofs.lemmas.List.{take_all}
 use Rattle.std.proofs.lemmas.Bool.{cases_Bool}
 use Rattle.std.proofs.lemmas.Bool.Decides.{nat_tests}

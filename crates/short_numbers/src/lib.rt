@@ -1,4 +1,5 @@
-//! Numbers of one to nine digits, leading zeros allowed: read in the same way wherever a text has one.
+//! Numbers of one to nine digits, leading zeros allowed: read in the same way wherever a text has
+//! one.
 #![tactic(auto)]
 
 ghost use Rattle.std.specs.Prelude.{◌≡◌, ◌↔◌, ℕ, List, Some, IfSome, IfNone};
@@ -7,8 +8,8 @@ ghost use Rattle.short_numbers.specs.Numbers.{IsNumber, number};
 /// The most digits of a number.
 const MOST_DIGITS: usize = 9;
 
-/// The number, 0 to 999,999,999, that one to nine digits write. None where there are none or more than nine bytes, or one of them is no
-/// digit: no sign and no space is read. Takes no memory.
+/// The number, 0 to 999,999,999, that one to nine digits write. None where there are none or more
+/// than nine bytes, or one of them is no digit: no sign and no space is read. Takes no memory.
 pub fn read_number(digits: &[u8]) -> Option<u32>
     ensures some { IfSome result (IsNumber digits.now) }
     ensures none { IfNone result ((n : ℕ) → ¬ (IsNumber digits.now n)) }

@@ -1,4 +1,5 @@
--- The search for the first broken place: what has been found to hold so far, and what each check stands on.
+-- The search for the first broken place: what has been found to hold so far, and what each check
+-- stands on.
 use Rattle.std.specs.Prelude.{◌≡◌, ℕ, ◌<◌, ◌≤◌, List, length, slice_index_or, ℤ, pos, nat_abs}
 use Rattle.tile_model.specs.Tessellations.{TileKind}
 use Rattle.tree_model.specs.declared.Rule.TheVariants.{Child}
@@ -19,7 +20,8 @@ HoldBelow kinds a c = (b f s : ℕ) → b < c → IsReadAt kinds a b f s → Hol
 
 -- all parts of C1 with numbers below p hold everywhere
 abbrev pub PartsBelow : List TileKind → TreeAutomaton → ℕ → Type 0
-PartsBelow kinds a p = (part index : ℕ) → part < p → index < part_size kinds a part → PartHolds kinds a part index
+PartsBelow kinds a p =
+    (part index : ℕ) → part < p → index < part_size kinds a part → PartHolds kinds a part index
 
 abbrev pub part_number : TablePart → ℕ
 part_number Limits = 0
@@ -48,7 +50,8 @@ pub record IsClaim (a : TreeAutomaton) (claim : Claim) : Type 0 where
 -- what the check of a part stands on
 abbrev pub IsPartReady : TablePart → List TileKind → TreeAutomaton → Type 0
 IsPartReady Limits kinds a = Unit {0}
-IsPartReady Targets kinds a = HasLimits kinds a × ((s : ℕ) → s < length a.states → HasTables kinds a s)
+IsPartReady Targets kinds a =
+    HasLimits kinds a × ((s : ℕ) → s < length a.states → HasTables kinds a s)
 IsPartReady _ kinds a = HasLimits kinds a
 
 abbrev pub side_number : SideCondition → ℕ
@@ -74,7 +77,8 @@ SideHolds ChildClaims kinds a s i = KeepsClaims kinds a s i
 
 -- what the check of such a condition stands on, beside a closed table
 abbrev pub IsSideReady : SideCondition → List TileKind → TreeAutomaton → Type 0
-IsSideReady ChildClaims kinds a = AtEverySide kinds a (HasFirstPlace a) × AtEverySide kinds a (HasLastPlace kinds a)
+IsSideReady ChildClaims kinds a =
+    AtEverySide kinds a (HasFirstPlace a) × AtEverySide kinds a (HasLastPlace kinds a)
 IsSideReady _ kinds a = Unit {0}
 
 -- it holds at the sides of state s below n

@@ -1,4 +1,5 @@
-//! The checker: whether an automaton meets the twelve conditions over a tessellation, and where it first breaks one.
+//! The checker: whether an automaton meets the twelve conditions over a tessellation, and where it
+//! first breaks one.
 #![tactic(auto)]
 
 mod broken;

@@ -28,8 +28,8 @@ impl Model for Rules {
 }
 
 impl Rules {
-    /// The rules of an automaton that is known to be accepted, as it is where `first_broken` answers None. Checks nothing and takes no
-    /// memory.
+    /// The rules of an automaton that is known to be accepted, as it is where `first_broken`
+    /// answers None. Checks nothing and takes no memory.
     pub fn of_accepted(tess: Tessellation, a: Automaton) -> Rules
         requires { IsAccepted tess a }
         ensures tessellation { result.kinds ≡ tess }
@@ -68,8 +68,9 @@ impl Rules {
     }
 }
 
-/// The least broken condition of an automaton over a tessellation and its least place, None where all twelve conditions hold: of all
-/// states, corner types and roots, whether the tree reaches them or not. Takes no memory.
+/// The least broken condition of an automaton over a tessellation and its least place, None where
+/// all twelve conditions hold: of all states, corner types and roots, whether the tree reaches them
+/// or not. Takes no memory.
 pub fn first_broken(tess: &Tessellation, a: &Automaton) -> Option<Broken>
     ensures exactly { IsNone result ↔ IsAccepted tess.now a.now }
     ensures first { IfSome result (λ b. IsFirstBroken tess.now a.now b.condition b.first b.second) }
@@ -79,8 +80,8 @@ pub fn first_broken(tess: &Tessellation, a: &Automaton) -> Option<Broken>
     check_all(tess, a).err()
 }
 
-/// Makes rules of an automaton that `first_broken` finds nothing broken in. Else both parts are handed back as they were, with what it
-/// finds. Takes no memory.
+/// Makes rules of an automaton that `first_broken` finds nothing broken in. Else both parts are
+/// handed back as they were, with what it finds. Takes no memory.
 pub fn check(tess: Tessellation, a: Automaton) -> Result<Rules, (Tessellation, Automaton, Broken)>
     ensures exactly { IsOk result ↔ IsAccepted tess a }
     ensures tessellation_kept { IfOk result (λ r. r.kinds ≡ tess) }

@@ -2,7 +2,8 @@
 use Rattle.std.specs.Prelude.{ℕ, Bool, ◌==◌, ◌||◌, if◌then◌else◌, true, false, List, [], ◌∷◌, map, filter}
 use Rattle.std.specs.List.{before_first, slice_split, onto_first}
 
--- Each line ends at a line feed. What stands behind the last line feed is a line too, where anything does.
+-- Each line ends at a line feed. What stands behind the last line feed is a line too, where
+-- anything does.
 abbrev pub lines : List ℕ → List (List ℕ)
 lines [] = []
 lines (b ∷ bytes) = if b == 10 then [] ∷ lines bytes else onto_first b (lines bytes)

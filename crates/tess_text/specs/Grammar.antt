@@ -1,4 +1,5 @@
--- The grammar of a tessellation file. A line is given by its words, and it is good or bad after the lines before it.
+-- The grammar of a tessellation file. A line is given by its words, and it is good or bad after the
+-- lines before it.
 use Rattle.std.specs.Prelude.{◌≡◌, ℕ, suc, ◌<◌, ◌≤◌, Bool, true, false, ◌==◌, ◌&&◌, nat_le, if◌then◌else◌, List, [], ◌∷◌, length, map, take, slice_index_or, Option, IsSome, codes}
 use Rattle.std.specs.declared.option.Option.TheVariants.{Some, None}
 use Rattle.std.specs.Option.{option_or}
@@ -96,8 +97,8 @@ pub record IsUngiven (es : List Entry) (d : ℕ × ℕ) : Type 0 where
   pub side : IsSide es d
   pub free : valence es d ≡ None
 
--- An entry is good after those before it. A kind has the number of kinds before it; a join has two sides that are not joined yet; a corner
--- is not given yet.
+-- An entry is good after those before it. A kind has the number of kinds before it; a join has two
+-- sides that are not joined yet; a corner is not given yet.
 abbrev pub IsGoodEntry : List Entry → Entry → Type 0
 IsGoodEntry es (Kind k sides repeat) = k ≡ length (shapes es)
 IsGoodEntry es (Join k s k2 s2) = IsUnjoined es (k, s) × IsUnjoined es (k2, s2)
@@ -111,13 +112,15 @@ head = codes "tess" ∷ codes "1" ∷ []
 abbrev pub has_begun : List (List (List ℕ)) → Bool
 has_begun before = list_any is_nonempty before
 
--- A line is good after those before it. The first line with words is the head, and each later line with words says an entry that is good.
+-- A line is good after those before it. The first line with words is the head, and each later line
+-- with words says an entry that is good.
 pub record IsGoodLine (before : List (List (List ℕ))) (line : List (List ℕ)) : Type 0 where
   pub first : has_begun before ≡ false → 0 < length line → line ≡ head
   pub later : has_begun before ≡ true → 0 < length line
       → (e : Entry) × (entry line ≡ Some e) × IsGoodEntry (entries before) e
 
--- The end of the file is good after its lines. They have the head and at least a kind, and each side has a partner and a corner.
+-- The end of the file is good after its lines. They have the head and at least a kind, and each
+-- side has a partner and a corner.
 pub record IsGoodEnd (lines : List (List (List ℕ))) : Type 0 where
   pub begun : has_begun lines ≡ true
   pub kinds : 1 ≤ length (shapes (entries lines))

@@ -37,8 +37,10 @@ fn small_number(word: &[u8]) -> Option<u8>
 
 /// The number that the first word of a text is, and what stands behind that word.
 fn next_number(text: &[u8]) -> Option<(u8, &[u8])>
-    ensures some { IfSome result (λ p. map small_number (words text.now) ≡ Some p.0 ∷ map small_number (words p.1.now)) }
-    ensures none { IfNone result ((n : ℕ) (more : List (Option ℕ)) → map small_number (words text.now) ≡ Some n ∷ more → ⊥) }
+    ensures some { IfSome result
+        (λ p. map small_number (words text.now) ≡ Some p.0 ∷ map small_number (words p.1.now)) }
+    ensures none { IfNone result ((n : ℕ) (more : List (Option ℕ))
+        → map small_number (words text.now) ≡ Some n ∷ more → ⊥) }
 {
     let (word, rest) = next_word(text)?;
     Some((small_number(word)?, rest))
@@ -46,8 +48,10 @@ fn next_number(text: &[u8]) -> Option<(u8, &[u8])>
 
 /// The numbers that the words of a text are, where it has three words and each is a number.
 fn three_numbers(text: &[u8]) -> Option<(u8, u8, u8)>
-    ensures some { IfSome result (λ p. map small_number (words text.now) ≡ Some p.0 ∷ Some p.1 ∷ Some p.2 ∷ []) }
-    ensures none { IfNone result ((a b c : ℕ) → map small_number (words text.now) ≡ Some a ∷ Some b ∷ Some c ∷ [] → ⊥) }
+    ensures some { IfSome result
+        (λ p. map small_number (words text.now) ≡ Some p.0 ∷ Some p.1 ∷ Some p.2 ∷ []) }
+    ensures none { IfNone result ((a b c : ℕ)
+        → map small_number (words text.now) ≡ Some a ∷ Some b ∷ Some c ∷ [] → ⊥) }
 {
     let (a, rest) = next_number(text)?;
     let (b, rest) = next_number(rest)?;
@@ -60,8 +64,10 @@ fn three_numbers(text: &[u8]) -> Option<(u8, u8, u8)>
 
 /// The numbers that the words of a text are, where it has four words and each is a number.
 fn four_numbers(text: &[u8]) -> Option<(u8, u8, u8, u8)>
-    ensures some { IfSome result (λ p. map small_number (words text.now) ≡ Some p.0 ∷ Some p.1 ∷ Some p.2 ∷ Some p.3 ∷ []) }
-    ensures none { IfNone result ((a b c d : ℕ) → map small_number (words text.now) ≡ Some a ∷ Some b ∷ Some c ∷ Some d ∷ [] → ⊥) }
+    ensures some { IfSome result
+        (λ p. map small_number (words text.now) ≡ Some p.0 ∷ Some p.1 ∷ Some p.2 ∷ Some p.3 ∷ []) }
+    ensures none { IfNone result ((a b c d : ℕ)
+        → map small_number (words text.now) ≡ Some a ∷ Some b ∷ Some c ∷ Some d ∷ [] → ⊥) }
 {
     let (a, rest) = next_number(text)?;
     let (b, rest) = next_number(rest)?;

@@ -13,7 +13,8 @@ Passes Valence = HasValence
 Passes Involution = IsInvolution
 Passes Corner = HasCorner
 
--- what must hold of all types before a check can be tried: partners are types where they are followed
+-- what must hold of all types before a check can be tried: partners are types where they are
+-- followed
 abbrev pub IsReady : Check → List TileKind → Type 0
 IsReady Partner kinds = Unit {0}
 IsReady Valence kinds = Unit {0}

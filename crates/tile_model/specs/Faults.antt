@@ -12,7 +12,8 @@ pub record IsFirstKind (kinds : List TileKind) (Has : TileKind → Type 0) (k : 
   pub lower : (j : ℕ) → j < k → Has (kind_at kinds j)
 
 -- d is the least type of the list without a property of types, by kinds and then by residues
-pub record IsFirstType (kinds : List TileKind) (Has : List TileKind → ℕ × ℕ → Type 0) (d : ℕ × ℕ) : Type 0 where
+pub record IsFirstType (kinds : List TileKind) (Has : List TileKind → ℕ × ℕ
+    → Type 0) (d : ℕ × ℕ) : Type 0 where
   pub is_type : IsType kinds d
   pub fails : ¬ (Has kinds d)
   pub lower_kinds : (e : ℕ × ℕ) → IsType kinds e → e.0 < d.0 → Has kinds e
@@ -32,12 +33,19 @@ pub record IsSized (kinds : List TileKind) : Type 0 where
   pub sides : AllKinds HasSides kinds
   pub repeat : AllKinds HasRepeat kinds
 
--- The fault of a list of kinds: the checks before hold everywhere, and this is the least place at which its check fails.
+-- The fault of a list of kinds: the checks before hold everywhere, and this is the least place at
+-- which its check fails.
 abbrev pub IsFault : List TileKind → KindFault → Type 0
 IsFault kinds Count = ¬ (HasCount kinds)
 IsFault kinds (Sides k s) = HasCount kinds × (s ≡ 0) × IsFirstKind kinds HasSides k
-IsFault kinds (Repeat k s) = HasCount kinds × AllKinds HasSides kinds × (s ≡ 0) × IsFirstKind kinds HasRepeat k
+IsFault kinds (Repeat k s) =
+    HasCount kinds × AllKinds HasSides kinds × (s ≡ 0) × IsFirstKind kinds HasRepeat k
 IsFault kinds (Partner k s) = IsSized kinds × IsFirstType kinds HasPartner (k, s)
-IsFault kinds (Valence k s) = IsSized kinds × AllTypes HasPartner kinds × IsFirstType kinds HasValence (k, s)
-IsFault kinds (Involution k s) = IsSized kinds × AllTypes HasPartner kinds × AllTypes HasValence kinds × IsFirstType kinds IsInvolution (k, s)
-IsFault kinds (Corner k s) = IsSized kinds × AllTypes HasPartner kinds × AllTypes HasValence kinds × AllTypes IsInvolution kinds × IsFirstType kinds HasCorner (k, s)
+IsFault kinds (Valence k s) =
+    IsSized kinds × AllTypes HasPartner kinds × IsFirstType kinds HasValence (k, s)
+IsFault kinds (Involution k s) =
+    IsSized kinds × AllTypes HasPartner kinds × AllTypes HasValence kinds
+    × IsFirstType kinds IsInvolution (k, s)
+IsFault kinds (Corner k s) =
+    IsSized kinds × AllTypes HasPartner kinds × AllTypes HasValence kinds
+    × AllTypes IsInvolution kinds × IsFirstType kinds HasCorner (k, s)

@@ -1,8 +1,9 @@
 // Why a list of kinds is no tessellation.
 use thiserror::Error;
 
-/// Why a list of kinds is no tessellation: the first check that fails, at its least kind and residue. The variants stand in the order
-/// of the checks. Where a check speaks of a whole kind, the residue is 0.
+/// Why a list of kinds is no tessellation: the first check that fails, at its least kind and
+/// residue. The variants stand in the order of the checks. Where a check speaks of a whole kind,
+/// the residue is 0.
 #[derive(Clone, Copy, Debug, PartialEq, Eq, Error)]
 pub enum KindFault {
     /// There are no kinds, or more than 256.
@@ -23,7 +24,8 @@ pub enum KindFault {
     /// The partner of the partner is not the side itself.
     #[error("the partner of the partner of side {residue} of kind {kind} is another side")]
     Involution { kind: u8, residue: u8 },
-    /// Round the corner the valences differ, or going round as often as the valence says does not lead back.
+    /// Round the corner the valences differ, or going round as often as the valence says does not
+    /// lead back.
     #[error("the corner at side {residue} of kind {kind} does not close")]
     Corner { kind: u8, residue: u8 },
 }

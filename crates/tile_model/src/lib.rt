@@ -1,4 +1,5 @@
-//! What the contracts of all crates speak of: tessellations by kinds of tile, walks over them, and which walks are related.
+//! What the contracts of all crates speak of: tessellations by kinds of tile, walks over them, and
+//! which walks are related.
 #![tactic(auto)]
 
 mod fault;

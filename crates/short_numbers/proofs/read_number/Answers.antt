@@ -1,5 +1,5 @@
 -- At each byte the value read so far is small, so that nothing is lost.
-use Rattle.std.proofs.Common.{ℕ, get_or, sym, ◌∙◌, subst, arith}
+use Rattle.std.proofs.Common.{get_or, sym, ◌∙◌, arith}
 use Rattle.std.proofs.lemmas.Bool.Decides.{nat_tests}
 use Rattle.short_numbers.specs.Numbers.{IsNumber}
 use Rattle.short_numbers.proofs.Reading.{number_of, number_none, value_small, no_digit, more_digits, more_value, digit_is, digit_small, read_all, none_short}

@@ -1,5 +1,5 @@
 use Rattle.std.proofs.Common.{sym, subst}
-use Rattle.std.specs.Prelude.{Option, ◌↔◌, IsNone, IsSomeAnd}
+use Rattle.std.specs.Prelude.{Option, ◌↔◌, IsNone}
 use Rattle.tree_model.specs.Conditions.{IsAccepted}
 use Rattle.structure_check.specs.declared.broken.Broken.{Broken}
 use Rattle.structure_check.proofs.First.{none_exactly, every_found}

@@ -1,4 +1,4 @@
-use Rattle.std.proofs.Common.{◌≡◌, None, Some, sym, ◌∙◌}
+use Rattle.std.proofs.Common.{◌≡◌, None, Some, ◌∙◌}
 use Rattle.short_numbers.specs.Numbers.{number}
 use Rattle.tess_text.proofs.Numbers.{word_none, word_byte}
 use Rattle.tess_text.proofs.entry.small_number.Goals as goal
