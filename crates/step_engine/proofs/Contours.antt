@@ -5,7 +5,7 @@ use Rattle.tree_model.specs.Contours.{Mark, Tree, Opens, mirrored}
 use Rattle.tree_model.specs.Positions.{Position, LiesAcross, in_tree, hop, mark}
 use Rattle.tree_laws.specs.Machine.{most_moves}
 use Rattle.tree_laws.specs.Directions.{turned, mark_towards, most_open, Runs, left_over}
-use Rattle.turn_rules.specs.Spots.{TreeSpot, root_kind}
+use Rattle.spot_laws.specs.Spots.{TreeSpot, root_kind}
 use Rattle.tree_laws.proofs.Runs.{goes_on, ends, tells, counter_most}
 use Rattle.tree_laws.proofs.Contour.{arrives}
 use Rattle.step_engine.specs.declared.detour.Detour.{Detour}

@@ -8,8 +8,8 @@ use Rattle.tree_model.specs.Names.{IsNameBelow, child_of}
 use Rattle.tree_model.specs.Positions.{Position, IsPosition, tree_across, rule_of, hop, parent, last_side}
 use Rattle.tree_model.proofs.Positions.{make_position, left_position, right_position, parent_up}
 use Rattle.tree_laws.specs.Directions.{turned}
-use Rattle.turn_rules.specs.Spots.{TreeSpot, IsSpot, IsAt, position, root_kind, tile_state, faced_rule}
-use Rattle.turn_rules.proofs.Spots.{spot_state, path_length, tile_known, down_is, up_is}
+use Rattle.spot_laws.specs.Spots.{TreeSpot, IsSpot, IsAt, position, root_kind, tile_state, faced_rule}
+use Rattle.spot_laws.proofs.Spots.{spot_state, path_length, tile_known, down_is, up_is}
 use Rattle.step_engine.specs.declared.detour.Detour.{Detour}
 use Rattle.step_engine.specs.Detours.{IsShaped, IsDetour, IsAbove, HasReached, spot_there, there}
 

@@ -8,7 +8,7 @@ use Rattle.structure_check.specs.Rules.{TreeRules, AreSound}
 use Rattle.tree_model.specs.Positions.{Position, LiesAcross, Leads, Moves, root}
 use Rattle.tree_model.specs.Places.{IsPlace}
 use Rattle.tree_model.proofs.Names.{LastView, empty, last, last_view}
-use Rattle.turn_rules.specs.Spots.{TreeSpot, IsSpot, position, root_kind}
+use Rattle.spot_laws.specs.Spots.{TreeSpot, IsSpot, position, root_kind}
 use Rattle.tree_laws.proofs.Closure.{across_same}
 use Rattle.tree_laws.proofs.Walking.{leads_append, leads_split, leads_same}
 use Rattle.tree_laws.proofs.Places.{place_leads, leads_place}

@@ -4,7 +4,7 @@ use Rattle.tile_model.specs.declared.Letter.{Letter}
 use Rattle.tile_model.specs.declared.Letter.TheVariants.{X}
 use Rattle.structure_check.specs.Rules.{TreeRules, AreSound}
 use Rattle.tree_model.specs.Positions.{Position, LiesAcross, Moves}
-use Rattle.turn_rules.specs.Spots.{TreeSpot, IsSpot, position, root_kind, tile_state, rejoined}
+use Rattle.spot_laws.specs.Spots.{TreeSpot, IsSpot, position, root_kind, tile_state, rejoined}
 use Rattle.tree_model.specs.Contours.{Opens}
 use Rattle.tree_laws.specs.Directions.{Goes, turned, mark_towards, most_open}
 use Rattle.step_engine.specs.Crossings.{IsDeepAcross}
@@ -24,8 +24,8 @@ pub record IsShaped (s : TreeSpot) (d : Detour) : Type 0 where
   pub kept : d.kept ≤ length s.name
   pub states : length d.states.items ≡ length d.sides.items
 
--- A detour from s, by rules that are accepted: it has come to a spot in the same tree, and tells the
--- state of the tile there.
+-- A detour from s, by rules that are accepted: it has come to a spot in the same tree, and tells
+-- the state of the tile there.
 pub record IsDetour (rules : TreeRules) (s : TreeSpot) (d : Detour) : Type 0 where
   pub sound : AreSound rules
   pub shape : IsShaped s d
@@ -49,7 +49,8 @@ pub record HasMoved (rules : TreeRules) (s : TreeSpot) (leftwards : Bool)
     (d : Detour) (c : ℕ) (done : Bool) (d' : Detour) (c' : ℕ) : Type 0 where
   pub detour : IsDetour rules s d'
   pub goes :
-      Goes rules.kinds rules.automaton (root_kind rules s) leftwards (there s d) c done (there s d') c'
+      Goes rules.kinds rules.automaton (root_kind rules s) leftwards
+      (there s d) c done (there s d') c'
 
 -- the crossing of the side that detour d faces
 pub record HasCrossed (rules : TreeRules) (s : TreeSpot) (d d' : Detour) : Type 0 where

@@ -17,12 +17,13 @@ pub trait Crossing {
     fn rules(&self) -> &Rules
         ensures { result.now ≡ accepted self.now };
 
-    /// Goes across the side that a detour from a spot faces. The spot itself stays where it is.
+    /// Goes across the side that a detour from a spot faces.
+    /// The spot itself stays where it is.
     ///
     /// # Errors
     ///
-    /// `Deep` comes exactly where the tile there has a name of more than 4,000 sides, unless memory runs out. After an error the detour may
-    /// stand anywhere.
+    /// `Deep` comes exactly where the tile there has a name of more than 4,000 sides, unless memory runs out.
+    /// After an error the detour may stand anywhere.
     fn cross(&mut self, s: &Spot, way: &mut Detour) -> Result<(), StepFault>
         requires { IsDetour (accepted self.old) s.now way.old }
         ensures rules { accepted self.new ≡ accepted self.old }

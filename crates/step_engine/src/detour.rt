@@ -3,7 +3,7 @@ ghost use Rattle.std.specs.Prelude.{◌≡◌, ◌≢◌, ◌↔◌, ◌<◌, �
 ghost use Rattle.std.specs.Prelude.{[], ◌∷◌, ◌++◌, length, IfOk, OnOk, OnErr, IsErrOf, IsTrue, All};
 ghost use Rattle.structure_check.specs.Rules.{TreeRules};
 ghost use Rattle.tree_model.specs.Automata.{next, previous, side_count};
-ghost use Rattle.turn_rules.specs.Spots.{IsSpot, tile_state, faced_rule, position};
+ghost use Rattle.spot_laws.specs.Spots.{IsSpot, tile_state, faced_rule, position};
 ghost use Rattle.step_engine.specs.Detours.{spot_there, there, turned_there, most_open_there};
 ghost use Rattle.step_engine.specs.Detours.{IsShaped, IsDetour, IsAbove, HasReached, HasMoved};
 ghost use Rattle.step_engine.specs.Detours.{HasCrossed, OpensTowards, FacesDeep};
@@ -19,8 +19,9 @@ use turn_rules::{Spot, brackets_fit, next_left, next_right, rule};
 /// How many sides below the spot's own name a detour keeps without an allocation.
 const INLINE: usize = 32;
 
-/// A place in the tree, by how its name leaves that of a spot: the first `kept` sides of the spot's name, and then other sides, with the
-/// states that they lead to. The state of its tile, the last one on the path, stands apart, since each move asks for it.
+/// A place in the tree, by how its name leaves that of a spot: the first `kept` sides of the spot's name, and then
+/// other sides, with the states that they lead to.
+/// The state of its tile, the last one on the path, stands apart, since each move asks for it.
 #[derive(Debug, Drop)]
 pub struct Detour {
     pub(crate) kept: usize,
@@ -31,6 +32,27 @@ pub struct Detour {
 }
 
 impl Detour {
+    /// How many sides of the spot's name the name of the place begins with.
+    pub fn kept(&self) -> usize
+        ensures { result ≡ self.now.kept }
+    {
+        self.kept
+    }
+
+    /// The sides that follow those in the name of the place.
+    pub fn sides(&self) -> &[u8]
+        ensures { result.now ≡ self.now.sides.items }
+    {
+        self.sides.as_slice()
+    }
+
+    /// The side that is faced.
+    pub fn spin(&self) -> u8
+        ensures { result ≡ self.now.spin }
+    {
+        self.spin
+    }
+
     /// The detour that has not left the spot.
     pub(crate) fn start(s: &Spot, r: &Rules) -> Detour
         requires { IsSpot r.now s.now }
@@ -83,7 +105,8 @@ impl Detour {
     #[inline]
     fn down(&mut self, child: u32) -> Result<(), AllocError>
         ensures kept { OnOk result (self.new.kept ≡ self.old.kept) }
-        ensures sides { OnOk result (self.new.sides.items ≡ self.old.sides.items ++ self.old.spin ∷ []) }
+        ensures sides { OnOk result
+            (self.new.sides.items ≡ self.old.sides.items ++ self.old.spin ∷ []) }
         ensures states { OnOk result (self.new.states.items ≡ self.old.states.items ++ child ∷ []) }
         ensures tile { OnOk result (self.new.tile ≡ child) }
         ensures spin { OnOk result (self.new.spin ≡ 0) }
@@ -123,8 +146,9 @@ impl Detour {
         self.spin = s.name().sides()[self.kept];
     }
 
-    /// Fewer than 2^127 brackets are ever open on the way from here, leftwards or rightwards. The call does nothing but read what tells this:
-    /// the side for the rules, and two lengths of which the name of the place is made.
+    /// Fewer than 2^127 brackets are ever open on the way from here, leftwards or rightwards.
+    /// The call does nothing but read what tells this: the side for the rules, and two lengths of which the name of the
+    /// place is made.
     fn counter_fits(&self, s: &Spot, r: &Rules, leftwards: bool)
         requires { IsDetour r.now s.now self.now }
         ensures { most_open_there r.now s.now leftwards self.now < 2 ^ 127 }
@@ -134,8 +158,8 @@ impl Detour {
         let _entered = self.sides.len();
     }
 
-    /// One move along the contour: a turn, and then across a side of the tree, or past a bracket, which is counted. It answers whether no
-    /// bracket is left open.
+    /// One move along the contour: a turn, and then across a side of the tree, or past a bracket, which is counted.
+    /// It answers whether no bracket is left open.
     fn go_on(
         &mut self,
         s: &Spot,
@@ -246,7 +270,8 @@ fn is_last(opens: bool, brackets: &mut u128) -> bool
     requires some { 1 ≤ brackets.old }
     requires few { brackets.old < 2 ^ 127 }
     ensures opened { opens ≡ true → (result ≡ false) × (brackets.new ≡ brackets.old + 1) }
-    ensures closed { opens ≡ false → (result ≡ nat_eq brackets.new 0) × (brackets.new + 1 ≡ brackets.old) }
+    ensures closed { opens ≡ false
+        → (result ≡ nat_eq brackets.new 0) × (brackets.new + 1 ≡ brackets.old) }
 {
     if opens {
         *brackets += 1;

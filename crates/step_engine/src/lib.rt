@@ -6,9 +6,9 @@ mod detour;
 mod fault;
 pub mod laws;
 mod steps;
-mod tile;
 #[cfg(test)]
 mod tests;
+mod tile;
 
 pub use crossing::{Contour, Crossing};
 pub use detour::Detour;

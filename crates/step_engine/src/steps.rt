@@ -6,7 +6,7 @@ ghost use Rattle.tile_model.specs.declared.Letter.TheVariants.{L};
 ghost use Rattle.tree_model.specs.Automata.{next, previous};
 ghost use Rattle.tree_model.specs.Positions.{Position, root};
 ghost use Rattle.tree_model.specs.Places.{position_word};
-ghost use Rattle.turn_rules.specs.Spots.{IsSpot, IsAt, position, root_kind, tile_sides, facing};
+ghost use Rattle.spot_laws.specs.Spots.{IsSpot, IsAt, position, root_kind, tile_sides, facing};
 ghost use Rattle.step_engine.specs.Crossings.{IsAcross, WalkLeadsTo, StandsAfter};
 ghost use Rattle.step_engine.specs.Crossings.{CrossesDeep, WalksDeep};
 ghost use Rattle.step_engine.specs.Detours.{IsDetour, HasStepped, FacesDeep};
@@ -48,12 +48,13 @@ pub fn turn_right(s: &mut Spot, r: &Rules)
     s.face(r, side);
 }
 
-/// Goes across the faced side, to the side that lies there, along the contour of the tree. It takes time in proportion to the contour
-/// between the two sides.
+/// Goes across the faced side, to the side that lies there, along the contour of the tree.
+/// It takes time in proportion to the contour between the two sides.
 ///
 /// # Errors
 ///
-/// `Deep` comes exactly where the tile there has a name of more than 4,000 sides. After an error the spot is as it was.
+/// `Deep` comes exactly where the tile there has a name of more than 4,000 sides.
+/// After an error the spot is as it was.
 pub fn cross(s: &mut Spot, r: &Rules) -> Result<(), StepFault>
     requires { IsSpot r.now s.old }
 
@@ -79,7 +80,8 @@ pub fn cross(s: &mut Spot, r: &Rules) -> Result<(), StepFault>
 ///
 /// # Errors
 ///
-/// `Deep` comes exactly where some crossing on the way arrives at a name of more than 4,000 sides. After an error the spot is as it was.
+/// `Deep` comes exactly where some crossing on the way arrives at a name of more than 4,000 sides.
+/// After an error the spot is as it was.
 pub fn walk(s: &mut Spot, r: &Rules, w: &Walk) -> Result<(), StepFault>
     requires { IsSpot r.now s.old }
 
@@ -103,8 +105,8 @@ pub fn walk(s: &mut Spot, r: &Rules, w: &Walk) -> Result<(), StepFault>
     walk_over(&mut Contour::new(r), s, w)
 }
 
-/// Goes by the letters of a walk in turn, across sides by the crossing that is handed in. It makes no copy of the spot, which stays where it
-/// is until the whole walk is gone.
+/// Goes by the letters of a walk in turn, across sides by the crossing that is handed in.
+/// It makes no copy of the spot, which stays where it is until the whole walk is gone.
 ///
 /// # Errors
 ///
@@ -169,7 +171,8 @@ fn step<C: Crossing>(
     }
 }
 
-/// The word of the spot: for each side of the name that many letters L and then X, and at last as many letters L as its spin is.
+/// The word of the spot: for each side of the name that many letters L and then X, and at last as many letters L as its
+/// spin is.
 pub fn spot_walk(alloc: Global, s: &Spot) -> Result<Walk, AllocError>
     ensures { IfOk result (λ w. w ≡ position_word (position s.now)) }
 {

@@ -1,7 +1,7 @@
 //! The state of a spot's tile, as one of the rules.
 ghost use Rattle.std.specs.Prelude.{◌≡◌, ◌<◌, length};
 ghost use Rattle.structure_check.specs.Rules.{AreSound};
-ghost use Rattle.turn_rules.specs.Spots.{IsSpot, tile_state};
+ghost use Rattle.spot_laws.specs.Spots.{IsSpot, tile_state};
 
 use structure_check::Rules;
 use turn_rules::Spot;
@@ -17,7 +17,8 @@ pub(crate) fn tile(s: &Spot, r: &Rules) -> u32
     s.state()
 }
 
-/// The rules are accepted. A body that reads nothing of them does not know this of its argument, so those that need it call this one, which
+/// The rules are accepted.
+/// A body that reads nothing of them does not know this of its argument, so those that need it call this one, which
 /// does nothing else.
 pub(crate) fn accepted(r: &Rules)
     ensures { AreSound r.now }

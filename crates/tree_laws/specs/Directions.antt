@@ -28,8 +28,8 @@ module _ (kinds : List TileKind) (a : TreeAutomaton) (k : ℕ) where
   abbrev pub most_open : Bool → Position → ℕ
   most_open d p = suc (a.scale * suc (length p.name) + rank a (inner_corner d p))
 
-  -- From p, about to turn, with c brackets open, the walk stops at q after n moves and one turn, and
-  -- its counter is never above most.
+  -- From p, about to turn, with c brackets open, the walk stops at q after n moves and one turn,
+  -- and its counter is never above most.
   abbrev pub Runs : Bool → ℕ → ℕ → Position → ℕ → Position → Type 0
   Runs d most n p c q = Halts Position (turned d) (hop kinds a k) (mark_towards d) most n p c q
 

@@ -167,7 +167,8 @@ module _ (kinds : List TileKind) (a : TreeAutomaton) (k : ℕ) where
 
   -- p is, in the tree whose root is the tile of u, the place of the walk w from there.
   abbrev pub IsPlaceFrom : (u w : List Letter) → Position → Type 0
-  IsPlaceFrom u w p = IsPlace kinds a (type_of kinds (k, 0) u).0 (rerooted (type_of kinds (k, 0) u) u w) p
+  IsPlaceFrom u w p =
+      IsPlace kinds a (type_of kinds (k, 0) u).0 (rerooted (type_of kinds (k, 0) u) u w) p
 
   -- The length of its name is the distance between u and w.
   abbrev pub PlacesTellDistance : Type 0

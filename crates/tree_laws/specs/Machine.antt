@@ -4,7 +4,8 @@ use Rattle.tree_model.specs.Contours.{Mark, Tree, Opens, Closes}
 
 -- At z, about to turn, with c brackets open, the walk stops at y after n moves and one turn. Its
 -- counter is never above most.
-pub data Halts (P : Type 0) (turn hop : P → P) (mark : P → Mark) (most : ℕ) : ℕ → P → ℕ → P → Type 0 where
+pub data Halts (P : Type 0) (turn hop : P → P) (mark : P → Mark) (most : ℕ) :
+    ℕ → P → ℕ → P → Type 0 where
   stops :
       {n c : ℕ} {z y : P} → mark (turn z) ≡ Closes → c ≡ 1 → c ≤ most → n ≡ 0 → turn z ≡ y →
       Halts P turn hop mark most n z c y
@@ -41,7 +42,8 @@ moves_left P turn hop mark (suc f) z c =
 
 -- One move, from z with c brackets open to y with e brackets open: it turns, and goes across a side
 -- of the tree. It is the last one where the turn closes the last bracket.
-pub record Moved (P : Type 0) (turn hop : P → P) (mark : P → Mark) (z : P) (c : ℕ) (done : Bool) (y : P) (e : ℕ) : Type 0 where
+pub record Moved (P : Type 0) (turn hop : P → P) (mark : P → Mark)
+    (z : P) (c : ℕ) (done : Bool) (y : P) (e : ℕ) : Type 0 where
   pub hopped : mark (turn z) ≡ Tree → (done ≡ false) × (y ≡ hop (turn z)) × (e ≡ c)
   pub opened : mark (turn z) ≡ Opens → (done ≡ false) × (y ≡ turn z) × (e ≡ suc c)
   pub closed : mark (turn z) ≡ Closes → (done ≡ nat_eq e 0) × (y ≡ turn z) × (suc e ≡ c)

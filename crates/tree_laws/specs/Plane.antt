@@ -1,13 +1,16 @@
--- What is known of a tree whose rules are accepted. All that is proved of matching, crossing and the
--- walk along the contour rests on these facts alone.
+-- What is known of a tree whose rules are accepted.
+-- All that is proved of matching, crossing and the walk along the contour rests on these facts
+-- alone.
 use Rattle.std.specs.Prelude.{◌≡◌, ℕ, suc, ◌≤◌, ℤ, pos, negsuc, ◌+ℤ◌, ◌-ℤ◌, ◌*ℤ◌, ◌<ℤ◌, ◌≤ℤ◌}
 use Rattle.tree_model.specs.Contours.{Mark, Tree, Opens, Closes}
 
--- A land of places, each a side of a tile. At the left end of the side lies a corner. The place has
--- the type of this corner, the number of its tile among those round the corner, and the depth of its
--- tile. A corner type has the number of its last tile, the depths of its tiles less that of the first
--- one, the corner at the other end of its key edge with the number there of its own first tile, and a
--- rank.
+-- A land of places, each a side of a tile.
+-- At the left end of the side lies a corner.
+-- The place has the type of this corner, the number of its tile among those round the corner, and
+-- the depth of its tile.
+-- A corner type has the number of its last tile, the depths of its tiles less that of the first
+-- one, the corner at the other end of its key edge with the number there of its own first tile, and
+-- a rank.
 pub record Land (P : Type 0) : Type 0 where
   pub left : P → P
   pub right : P → P
@@ -33,7 +36,8 @@ pub record IsPlane (P : Type 0) (IsThere : P → Type 0) (land : Land P) : Type 
   pub there_hop : (p : P) → IsThere p → land.mark p ≡ Tree → IsThere (land.hop p)
   pub hop_tree : (p : P) → IsThere p → land.mark p ≡ Tree → land.mark (land.hop p) ≡ Tree
   pub hop_hop : (p : P) → IsThere p → land.mark p ≡ Tree → land.hop (land.hop p) ≡ p
-  -- the first tile of a corner is that of an opening side, and the last one lies before a closing side
+  -- the first tile of a corner is that of an opening side, and the last one lies before a closing
+  -- side
   pub opens_first : (p : P) → IsThere p → land.mark p ≡ Opens → land.place p ≡ 0
   pub first_opens : (p : P) → IsThere p → land.place p ≡ 0 → land.mark p ≡ Opens
   pub closes_last :

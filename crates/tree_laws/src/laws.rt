@@ -1,5 +1,6 @@
-//! Closure of the tree of accepted rules. The functions do nothing: their contracts state laws of every tessellation, of all rules that
-//! are accepted for it, and of every position of the infinite tree of a kind, at any depth.
+//! Closure of the tree of accepted rules.
+//! The functions do nothing: their contracts state laws of every tessellation, of all rules that are accepted for it,
+//! and of every position of the infinite tree of a kind, at any depth.
 
 ghost use Rattle.tree_laws.specs.Laws.{OfEachTree, LeftSidesAreMatched, RightSidesAreMatched};
 ghost use Rattle.tree_laws.specs.Laws.{AcrossIsOne, AcrossIsBack, AcrossIsPartner, AcrossIsNear};
@@ -17,7 +18,8 @@ pub fn matching()
     ensures right_sides { OfEachTree RightSidesAreMatched }
 {}
 
-/// The walk along the contour with one counter of open brackets, from each side outside the tree, stops at the position across.
+/// The walk along the contour with one counter of open brackets, from each side outside the tree, stops at the position
+/// across.
 pub fn contours()
     ensures arrive { OfEachTree WalksArrive }
 {}
@@ -29,9 +31,10 @@ pub fn weights()
     ensures bounded { OfEachTree WeightIsBounded }
 {}
 
-/// Each walk from side 0 of a kind has exactly one place, the position to which it leads. Two walks have one place exactly where they are
-/// related, and places of one name exactly where they are at the same tile. The side at its place has the walk's type, and the state there
-/// is one of that type's kind.
+/// Each walk from side 0 of a kind has exactly one place, the position to which it leads.
+/// Two walks have one place exactly where they are related, and places of one name exactly where they are at the same
+/// tile.
+/// The side at its place has the walk's type, and the state there is one of that type's kind.
 pub fn places()
     ensures one { OfEachTree WalksHaveOnePlace }
     ensures related { OfEachTree PlacesTellRelated }
@@ -40,14 +43,16 @@ pub fn places()
     ensures kinds { OfEachTree StatesTellKinds }
 {}
 
-/// A crossing changes the depth by one at most, and the length of the name of a walk's place is its distance from the root.
+/// A crossing changes the depth by one at most, and the length of the name of a walk's place is its distance from the
+/// root.
 pub fn levels()
     ensures near { OfEachTree AcrossIsNear }
     ensures distance { OfEachTree DepthIsDistance }
 {}
 
-/// The distance between any two walks is the depth to which the second one leads in the tree whose root is the tile of the first. The name
-/// there spells a shortest way, and a walk that goes on from another needs no way back.
+/// The distance between any two walks is the depth to which the second one leads in the tree whose root is the tile of
+/// the first.
+/// The name there spells a shortest way, and a walk that goes on from another needs no way back.
 pub fn shortest()
     ensures place { OfEachTree PlacesTellDistance }
     ensures depth { OfEachTree DistanceIsDepth }
@@ -55,7 +60,8 @@ pub fn shortest()
     ensures onwards { OfEachTree DistanceOnwards }
 {}
 
-/// Ring d has a name of each tile at distance d from the root, that of its place, and none other, and no two names are one tile.
+/// Ring d has a name of each tile at distance d from the root, that of its place, and none other, and no two names are
+/// one tile.
 pub fn rings()
     ensures distance { OfEachTree RingsAreAtDistance }
     ensures whole { OfEachTree RingsAreWhole }

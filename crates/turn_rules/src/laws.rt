@@ -1,5 +1,5 @@
-//! Closure of the tree of accepted rules. The functions do nothing: their contracts state laws of every position of the infinite tree of a
-//! kind, at any depth.
+//! Closure of the tree of accepted rules.
+//! The functions do nothing: their contracts state laws of every position of the infinite tree of a kind, at any depth.
 
 ghost use Rattle.std.specs.Prelude.{◌<◌, length};
 ghost use Rattle.structure_check.specs.Rules.{AreSound};
@@ -7,8 +7,8 @@ ghost use Rattle.tree_laws.specs.Laws.{AcrossIsOne, AcrossIsBack, AcrossIsPartne
 
 use structure_check::Rules;
 
-/// Exactly one position lies across each position in the tree of a kind, it has that position across it, and the types of the two are
-/// partners.
+/// Exactly one position lies across each position in the tree of a kind, it has that position across it, and the types
+/// of the two are partners.
 pub fn across_back(r: &Rules, kind: u8)
     requires kind { kind < length r.now.kinds }
     ensures one { AcrossIsOne r.now.kinds r.now.automaton kind }
@@ -26,8 +26,9 @@ pub fn round_corner(r: &Rules, kind: u8)
     accepted(r);
 }
 
-/// The rules are accepted. A body that reads nothing of them does not know this of its argument, so the laws call this one, which does
-/// nothing else.
+/// The rules are accepted.
+/// A body that reads nothing of them does not know this of its argument, so the laws call this one, which does nothing
+/// else.
 fn accepted(r: &Rules)
     ensures { AreSound r.now }
 {

@@ -1,4 +1,5 @@
-//! Spots in the tree of accepted rules and their steps to a child and to the parent, the sides of a tile, and laws of accepted rules.
+//! Spots in the tree of accepted rules and their steps to a child and to the parent, the sides of a tile, and laws of
+//! accepted rules.
 #![tactic(auto)]
 
 pub mod laws;

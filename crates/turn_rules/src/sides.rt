@@ -1,7 +1,7 @@
 //! The sides of a tile in a state: how many there are, which one comes next, and what each is in the tree.
 ghost use Rattle.std.specs.Prelude.{◌≡◌, ◌<◌, ◌≤◌, true, false, length};
 ghost use Rattle.tree_model.specs.Automata.{next, previous, rule_at, side_count as count};
-ghost use Rattle.turn_rules.specs.Spots.{BracketsAreFew};
+ghost use Rattle.spot_laws.specs.Spots.{BracketsAreFew};
 
 use structure_check::Rules;
 use tree_model::Rule;
@@ -50,8 +50,9 @@ pub fn next_right(r: &Rules, state: u32, side: u8) -> u8
     }
 }
 
-/// A counter of open brackets below 2^127 is enough for the walk along the contour, leftwards or rightwards, from a side of a tile in a
-/// state of the rules. The call does nothing but read the tables, which tell this.
+/// A counter of open brackets below 2^127 is enough for the walk along the contour, leftwards or rightwards, from a
+/// side of a tile in a state of the rules.
+/// The call does nothing but read the tables, which tell this.
 pub fn brackets_fit(r: &Rules, state: u32, side: u8, leftwards: bool)
     requires state { state < length r.now.automaton.states }
     requires side { side < count r.now.kinds r.now.automaton state }
@@ -68,7 +69,8 @@ fn inner_side(r: &Rules, state: u32, side: u8, leftwards: bool) -> u8
     requires state { state < length r.now.automaton.states }
     requires side { side < count r.now.kinds r.now.automaton state }
     ensures left { leftwards ≡ true → result ≡ side }
-    ensures right { leftwards ≡ false → result ≡ previous (count r.now.kinds r.now.automaton state) side }
+    ensures right { leftwards ≡ false
+        → result ≡ previous (count r.now.kinds r.now.automaton state) side }
     ensures below { result < count r.now.kinds r.now.automaton state }
 {
     if leftwards {

@@ -4,8 +4,8 @@ ghost use Rattle.std.specs.Prelude.{IfOk, OnOk, OnErr};
 ghost use Rattle.structure_check.specs.Rules.{TreeRules};
 ghost use Rattle.tree_model.specs.Automata.{state_at};
 ghost use Rattle.tree_model.specs.Positions.{root};
-ghost use Rattle.turn_rules.specs.Spots.{position, root_kind, tile_state, tile_sides, facing, rejoined};
-ghost use Rattle.turn_rules.specs.Spots.{IsSpot, IsAt, FacesChild, IsAtChild, IsAtParent};
+ghost use Rattle.spot_laws.specs.Spots.{position, root_kind, tile_state, tile_sides, facing, rejoined};
+ghost use Rattle.spot_laws.specs.Spots.{IsSpot, IsAt, FacesChild, IsAtChild, IsAtParent};
 
 use cell_names::Name;
 use smallvec::SmallVec;
@@ -14,8 +14,9 @@ use std::marker::Model;
 use structure_check::Rules;
 use tree_model::Rule;
 
-/// A tile of the tree by its name, the states on the path from the root to it, and the number of the side that is faced. Calls that take
-/// rules ask for a spot of these rules: its path is that of its name, and its side is one of its tile.
+/// A tile of the tree by its name, the states on the path from the root to it, and the number of the side that is
+/// faced.
+/// Calls that take rules ask for a spot of these rules: its path is that of its name, and its side is one of its tile.
 #[derive(Debug, Drop)]
 pub struct Spot {
     name: Name,
@@ -25,7 +26,7 @@ pub struct Spot {
 
 impl Model for Spot {
     ghost use Rattle.std.specs.Prelude.{◌≡◌, suc, length};
-    ghost use Rattle.turn_rules.specs.Spots.{TreeSpot};
+    ghost use Rattle.spot_laws.specs.Spots.{TreeSpot};
 
     ghost Value = { TreeSpot };
 
@@ -79,13 +80,15 @@ impl Spot {
         requires spot { IsSpot r.now self.old }
         requires side { spin < tile_sides r.now self.old }
         ensures faces { self.new ≡ facing self.old spin }
-        ensures spot { IsAt r.now (root_kind r.now self.old) (position (facing self.old spin)) self.new }
+        ensures spot { IsAt r.now (root_kind r.now self.old)
+            (position (facing self.old spin)) self.new }
     {
         self.spin = spin;
     }
 
-    /// Keeps the first `kept` sides of the name, goes on by other sides, each below 64, through these states, and faces a side. Out of
-    /// memory the spot is as it was.
+    /// Keeps the first `kept` sides of the name, goes on by other sides, each below 64, through these states, and faces
+    /// a side.
+    /// Out of memory the spot is as it was.
     pub fn rejoin(
         &mut self,
         kept: usize,
@@ -157,7 +160,7 @@ impl Spot {
     }
 
     /// The kind of the tile.
-    #[tactic(auto, using(crate::proofs::Spots::tile_known))]
+    #[tactic(auto, using(spot_laws::proofs::Spots::tile_known))]
     pub fn kind(&self, r: &Rules) -> u8
         requires { IsSpot r.now self.now }
         ensures value { result ≡ (state_at r.now.automaton (tile_state r.now self.now)).kind }

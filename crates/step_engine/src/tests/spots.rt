@@ -1,6 +1,6 @@
 // The steps of a spot in a tree of two kinds of tile, with the names and states that the tables tell.
 ghost use Rattle.std.specs.Prelude.{OnOk};
-ghost use Rattle.turn_rules.specs.Spots.{IsSpot};
+ghost use Rattle.spot_laws.specs.Spots.{IsSpot};
 
 use super::builders::{start, truncated};
 use rules_data::Rule;
@@ -11,6 +11,7 @@ use structure_check::Rules;
 use turn_rules::{Spot, rule};
 
 // Faces a side of the tile, and goes to the child across it. It answers whether there is one.
+#[tactic(auto, using(spot_laws::proofs::Spots::tile_known), unfolding(tree_model::specs::Automata::side_count))]
 fn enter(s: &mut Spot, r: &Rules, side: u8) -> Result<bool, AllocError>
     requires { IsSpot r.now s.old }
     ensures { OnOk result (IsSpot r.now s.new) }

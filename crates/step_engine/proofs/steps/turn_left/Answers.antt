@@ -1,7 +1,7 @@
 use Rattle.std.proofs.Common.{◌∙◌, ap₂, arith}
 use Rattle.tree_model.specs.Automata.{next, side_count}
 use Rattle.tree_model.proofs.Sides.{next_below}
-use Rattle.turn_rules.specs.Spots.{tile_sides}
+use Rattle.spot_laws.specs.Spots.{tile_sides}
 use Rattle.step_engine.proofs.steps.turn_left.Goals as goal
 
 pub face-requires-clause-side : goal.face-requires-clause-side

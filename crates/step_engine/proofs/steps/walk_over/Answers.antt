@@ -1,5 +1,5 @@
 use Rattle.std.proofs.Common.{Err, subst, sym, ap, ◌∙◌}
-use Rattle.turn_rules.specs.Spots.{IsSpot, position}
+use Rattle.spot_laws.specs.Spots.{IsSpot, position}
 use Rattle.step_engine.specs.declared.fault.StepFault.TheVariants.{Deep}
 use Rattle.step_engine.specs.Crossings.{WalkLeadsTo, WalksDeep}
 use Rattle.step_engine.specs.Detours.{IsDetour}

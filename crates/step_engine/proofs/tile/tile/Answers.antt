@@ -1,5 +1,5 @@
 use Rattle.std.proofs.Common.{◌<◌, sym, subst, length}
-use Rattle.turn_rules.proofs.Spots.{tile_known}
+use Rattle.spot_laws.proofs.Spots.{tile_known}
 use Rattle.step_engine.proofs.tile.tile.Goals as goal
 
 pub returns-clause-known : goal.returns-clause-known

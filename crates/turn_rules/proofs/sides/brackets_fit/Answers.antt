@@ -1,6 +1,6 @@
 use Rattle.std.proofs.Common.{◌<◌, ◌≡◌, ◌^◌, ◌∙◌, sym, ap, ap₂, subst, arith, length}
 use Rattle.tree_model.specs.Automata.{claim_at, rank}
-use Rattle.turn_rules.proofs.Counter.{brackets_few}
+use Rattle.spot_laws.proofs.Counter.{brackets_few}
 use Rattle.turn_rules.proofs.sides.brackets_fit.Goals as goal
 
 pub rank-rank-requires : goal.rank-rank-requires

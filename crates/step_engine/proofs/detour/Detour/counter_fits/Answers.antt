@@ -1,6 +1,6 @@
 use Rattle.std.proofs.Common.{◌<◌, ◌^◌, sym, ap, ◌∙◌, arith, refl, length}
 use Rattle.tree_model.specs.Names.{state_of}
-use Rattle.turn_rules.specs.Spots.{root_kind}
+use Rattle.spot_laws.specs.Spots.{root_kind}
 use Rattle.step_engine.specs.Detours.{there}
 use Rattle.step_engine.proofs.Detours.{depth_is, state_in_range}
 use Rattle.step_engine.proofs.detour.Detour.counter_fits.Goals as goal

@@ -1,7 +1,7 @@
 use Rattle.std.proofs.Common.{ap, ap₂, ◌∙◌, ◌++◌, ◌∷◌, [], sym, subst, arith, ◌≡◌, ◌<◌, length}
 use Rattle.tree_model.specs.Automata.{state_at, rule_at}
-use Rattle.turn_rules.specs.Spots.{IsAtChild, tile_state, rejoined}
-use Rattle.turn_rules.proofs.Spots.{tile_known, spin_small, all_one, rejoined_down}
+use Rattle.spot_laws.specs.Spots.{IsAtChild, tile_state, rejoined}
+use Rattle.spot_laws.proofs.Spots.{tile_known, spin_small, all_one, rejoined_down}
 use Rattle.turn_rules.proofs.spot.Spot.down.Goals as goal
 
 pub rule-requires-clause-state : goal.rule-requires-clause-state
@@ -35,5 +35,5 @@ returns-clause-child c =
     let down = rejoined_down c.args.r.now a.sound c.args.self.now c.level.result c.rejoin.inside.spin c.in-Child.child c.requires.spot rule c.level.ensures faced in
     let went = rejoined c.args.self.now c.level.result (c.rejoin.inside.spin ∷ []) (c.in-Child.child ∷ []) 0 in
     let there : c.rejoin-2.new.self ≡ went → IsAtChild c.args.r.now c.args.self.now c.rejoin-2.new.self =
-        λ e. subst (IsAtChild c.args.r.now c.args.self.now) (sym e) down in
+    λ e. subst (IsAtChild c.args.r.now c.args.self.now) (sym e) down in
     grind (arith, there, c.rejoin-2.ensures.rejoined)

@@ -1,5 +1,5 @@
 use Rattle.std.proofs.Common.{sym, ap, ◌∙◌, ◌++◌, arith, option_to_list, ◌≡◌, suc, length}
-use Rattle.turn_rules.proofs.Spots.{up_is}
+use Rattle.spot_laws.proofs.Spots.{up_is}
 use Rattle.turn_rules.proofs.spot.Spot.up.Goals as goal
 
 pub returns-in-Some : goal.returns-in-Some

@@ -8,8 +8,8 @@ use Rattle.tree_model.specs.Names.{child_of, reached, IsName}
 use Rattle.tree_model.specs.Positions.{Position, IsPosition, root, parent, last_side, rule_of}
 use Rattle.tree_model.proofs.Names.{parent_push, last_side_push, name_last}
 use Rattle.tree_model.proofs.Positions.{make_position, same_position, few_sides, state_known, IsDown, down_position}
-use Rattle.turn_rules.specs.Spots.{TreeSpot, IsSpot, IsAt, IsAtChild, IsAtParent, position, states_along}
-use Rattle.turn_rules.specs.Spots.{root_kind, tile_state, tile_sides, faced_rule, facing, rejoined}
+use Rattle.spot_laws.specs.Spots.{TreeSpot, IsSpot, IsAt, IsAtChild, IsAtParent, position, states_along}
+use Rattle.spot_laws.specs.Spots.{root_kind, tile_state, tile_sides, faced_rule, facing, rejoined}
 use Rattle.tree_laws.proofs.Words.{root_position}
 
 pub all_one : (i : ℕ) → i < 64 → All (λ j. j < 64) (i ∷ [])

@@ -3,7 +3,7 @@ use Rattle.std.proofs.Common.{◌≡◌, ◌<◌, ◌^◌, ◌∙◌, ℕ, Bool,
 use Rattle.structure_check.specs.Rules.{TreeRules, AreSound}
 use Rattle.tree_model.specs.Automata.{claim_at, rank, previous, side_count}
 use Rattle.tree_laws.proofs.Contour.{most_open_fits}
-use Rattle.turn_rules.specs.Spots.{BracketsAreFew}
+use Rattle.spot_laws.specs.Spots.{BracketsAreFew}
 
 module _ (r : TreeRules) (sound : AreSound r) (state side inner : ℕ) where
   -- the rank of the corner at a side
