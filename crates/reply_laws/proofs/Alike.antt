@@ -1,5 +1,5 @@
 -- A reply that is due by one reading is due by each that says the same.
-use Rattle.std.proofs.Common.{◌≡◌, ℕ, ◌<◌, List, [], ◌∷◌, ◌++◌, length}
+use Rattle.std.proofs.Common.{ℕ, ◌<◌, List, [], ◌++◌, length}
 use Rattle.tile_model.specs.declared.Letter.{Letter}
 use Rattle.tile_model.specs.Tessellations.{TileKind}
 use Rattle.reply_model.specs.declared.Command.{Command}

@@ -11,7 +11,7 @@ use Rattle.reply_model.specs.declared.Reply.TheVariants.{Done}
 use Rattle.reply_model.specs.Histories.{History, AreDue, Exists, letters_for, walk_of}
 use Rattle.reply_model.specs.Readings.{Reading}
 use Rattle.reply_model.specs.Replies.{IsReply}
-use Rattle.reply_laws.specs.Laws.{as_move, moves, AsksPlace, asks_at, InterleavingsAgree}
+use Rattle.reply_laws.specs.Laws.{as_move, moves, asks_at, InterleavingsAgree}
 use Rattle.reply_laws.proofs.Events.{Event, only_itself}
 use Rattle.reply_laws.proofs.Definite.{IsDefinite, one_reply}
 use Rattle.reply_laws.proofs.Histories.{HaveSameWalks, none_due, due_push, due_alike}

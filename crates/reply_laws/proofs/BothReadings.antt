@@ -1,6 +1,6 @@
 -- What the tree says and what walks say is the same, and it is definite.
-use Rattle.std.proofs.Common.{◌≡◌, ℕ, ◌<◌, ◌↔◌, inl, inr, true, false, Bool, List, ◌++◌, length, replicate, refl, sym, ap, ◌∙◌, subst}
-use Rattle.std.proofs.lemmas.Bool.{cases_Bool, both_ways}
+use Rattle.std.proofs.Common.{◌≡◌, ℕ, ◌<◌, ◌↔◌, inl, inr, true, false, Bool, List, length, refl, subst}
+use Rattle.std.proofs.lemmas.Bool.{both_ways}
 use Rattle.std.specs.Str.{bytes_eq}
 use Rattle.std.proofs.lemmas.Slice.Eq.{bytes_eq-Decides}
 use Rattle.tile_model.specs.declared.Letter.{Letter}
@@ -12,14 +12,13 @@ use Rattle.tile_model.proofs.Distances.{one_distance}
 use Rattle.tree_model.specs.Automata.{TreeAutomaton}
 use Rattle.tree_model.specs.Conditions.{IsAccepted}
 use Rattle.tree_model.specs.Positions.{Position, root}
-use Rattle.tree_model.specs.Places.{IsPlace}
 use Rattle.tree_laws.specs.Laws.{HasOnePlace}
 use Rattle.tree_laws.proofs.Together.{walks_one_place, names_tell}
 use Rattle.tree_laws.proofs.Levels.{start_type, distance}
 use Rattle.tree_laws.proofs.Walking.{leads_same}
 use Rattle.reply_model.specs.WalkReadings.{IsThePlace, walk_reading}
 use Rattle.reply_model.specs.TreeReadings.{LeadsTo, LeadToOneName, LeadsApart, end_type, way_between, tree_reading}
-use Rattle.reply_laws.specs.Laws.{SayTheSame, ReadingsAgree, RepliesAgree}
+use Rattle.reply_laws.specs.Laws.{ReadingsAgree, RepliesAgree}
 use Rattle.reply_laws.proofs.Alike.{the_other_way, read_again}
 use Rattle.reply_laws.proofs.Definite.{IsSettled, settled_alike, IsDefinite, definite_alike}
 

@@ -5,7 +5,6 @@ use Rattle.std.proofs.lemmas.Bool.{cases_eq, cases_lt}
 use Rattle.std.proofs.lemmas.List.Elements.{Contains-append_left, Contains-append_right, Contains-append_cases, Contains-push}
 use Rattle.tile_model.specs.declared.Letter.{Letter}
 use Rattle.tile_model.specs.Tessellations.{TileKind}
-use Rattle.tile_model.specs.Walks.{type_of}
 use Rattle.tree_model.specs.Limits.{deepest}
 use Rattle.tree_model.specs.Positions.{Position}
 use Rattle.reply_model.specs.declared.Command.{Command}

@@ -1,5 +1,5 @@
 -- Over the tree, a walk comes too far from the root where it leads to a name that is too long.
-use Rattle.std.proofs.Common.{◌≡◌, ℕ, ◌<◌, List, [], length, refl, subst, sym}
+use Rattle.std.proofs.Common.{ℕ, ◌<◌, List, [], length, refl, subst, sym}
 use Rattle.tile_model.specs.declared.Letter.{Letter}
 use Rattle.tile_model.specs.Tessellations.{TileKind}
 use Rattle.tree_model.specs.Automata.{TreeAutomaton}

@@ -1,5 +1,5 @@
 -- What the names in replies to `at` tell.
-use Rattle.std.proofs.Common.{◌≡◌, ℕ, ◌<◌, ◌↔◌, List, length, refl, ap}
+use Rattle.std.proofs.Common.{ℕ, ◌<◌, List, length, ap}
 use Rattle.tile_model.specs.Tessellations.{TileKind}
 use Rattle.tile_model.specs.Validity.{IsValid}
 use Rattle.tree_model.specs.Automata.{TreeAutomaton}

@@ -1,5 +1,5 @@
 -- What the calls of a session come to, by the spots that they look up and leave behind.
-use Rattle.std.proofs.Common.{◌≡◌, ℕ, zero, suc, ◌<◌, ◌⊎◌, inl, inr, true, false, List, [], ◌∷◌, ◌++◌, length, replicate, set, get_or, refl, sym, ap, ◌∙◌, subst, arith, true≢false}
+use Rattle.std.proofs.Common.{◌≡◌, ℕ, zero, suc, ◌<◌, ◌⊎◌, inl, inr, true, false, List, [], length, replicate, set, get_or, refl, sym, ap, ◌∙◌, subst, arith, true≢false}
 use Rattle.std.specs.Prelude.{Option, None, Some, is_some, IsSome, MatchOption, Result, Ok, Err, IfOk, OnErr, IsErrOf}
 use Rattle.std.proofs.lemmas.Bool.{false≢true}
 use Rattle.std.proofs.lemmas.List.{get_or_default, set-get_or, length-replicate}
@@ -18,7 +18,7 @@ use Rattle.reply_model.specs.declared.Reply.{Reply}
 use Rattle.reply_model.specs.declared.Reply.TheVariants.{Done, At as AtPlace, NoWalker, Deep}
 use Rattle.reply_model.specs.Histories.{History, most_walkers}
 use Rattle.session_core.specs.Sessions.{SessionState, walker_at, IsWalker, IsSession, Stands}
-use Rattle.session_core.specs.Sessions.{over_walks, over_tree, StandsFor, StandsForWalks}
+use Rattle.session_core.specs.Sessions.{StandsFor, StandsForWalks}
 use Rattle.session_core.specs.Sessions.{IsDueOverWalks, IsDueOverTree}
 use Rattle.session_core.specs.Answered.{HasAnswered, extended}
 use Rattle.reply_laws.proofs.Histories.{none_due}

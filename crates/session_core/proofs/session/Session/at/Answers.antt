@@ -1,7 +1,7 @@
-use Rattle.std.proofs.Common.{ap, subst, ◌∙◌}
+use Rattle.std.proofs.Common.{ap, ◌∙◌}
 use Rattle.reply_model.specs.declared.Command.TheVariants.{At}
 use Rattle.reply_model.specs.declared.Reply.TheVariants.{NoWalker}
-use Rattle.session_core.specs.Sessions.{SessionState, IsSession}
+use Rattle.session_core.specs.Sessions.{SessionState}
 use Rattle.session_core.proofs.Steps.{at_nobody}
 use Rattle.session_core.proofs.Standing.{answered}
 use Rattle.session_core.proofs.Going.{has_told}

@@ -1,8 +1,7 @@
-use Rattle.std.proofs.Common.{inl, inr, subst}
+use Rattle.std.proofs.Common.{inl, inr}
 use Rattle.std.proofs.lemmas.Bool.{both_ways}
 use Rattle.reply_model.specs.declared.Command.TheVariants.{Same}
 use Rattle.reply_model.specs.declared.Reply.TheVariants.{NoWalker, Yes, No}
-use Rattle.session_core.specs.Sessions.{SessionState, IsSession}
 use Rattle.session_core.proofs.Steps.{same_nobody, one_tile, two_tiles}
 use Rattle.session_core.proofs.Standing.{answered}
 use Rattle.session_core.proofs.session.Session.same.Goals as goal
