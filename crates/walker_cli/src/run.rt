@@ -30,7 +30,8 @@ use way_io::{Files, Sink, Source};
 /// told for each. Of a fault of the outside the count of `files`, `input` or `out` tells; want of
 /// memory may come at any point.
 ///
-/// Words in no form leave the files alone, and `input` is read only where walkers are served.
+/// Words in no form leave the files alone. `input` stays as it was where the words are not of the
+/// form `run`, where an answer is due, and where a file could not be read.
 pub fn run<F: Files, I: Source, O: Sink>(
     alloc: Global,
     words: &[String],
