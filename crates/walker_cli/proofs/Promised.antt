@@ -3,7 +3,7 @@ use Rattle.std.proofs.Common.{◌≡◌, refl, ap}
 use Rattle.way_io.specs.Counts.{Rose}
 use Rattle.tree_laws.specs.Laws.{OfEachTree}
 use Rattle.line_server.specs.Laws.{OutputsAgree}
-use Rattle.walker_cli.specs.declared.status.Status.TheVariants.{Done, Usage, FileTooLong, TessRefused, RulesText, NotAccepted, ReadFault, WriteFault}
+use Rattle.walker_cli.specs.declared.status.Status.TheVariants.{Usage, FileTooLong, TessRefused, RulesText, NotAccepted, ReadFault, WriteFault}
 use Rattle.walker_cli.specs.Runs.{Run}
 use Rattle.walker_cli.specs.StatusLines.{class_of}
 use Rattle.walker_cli.specs.Promise.{KeepsOutside, KeepsPromise}

@@ -6,7 +6,6 @@ use Rattle.tree_model.specs.Automata.{TreeAutomaton}
 use Rattle.tree_model.specs.Conditions.{IsAccepted}
 use Rattle.tess_text.specs.Spelling.{IsSpelling}
 use Rattle.rules_file.specs.Spelling.{IsRulesFile}
-use Rattle.structure_check.specs.Rules.{TreeRules}
 use Rattle.walker_cli.specs.declared.answer.Answer.{Answer}
 use Rattle.walker_cli.specs.declared.answer.Answer.TheVariants.{Usage}
 use Rattle.walker_cli.specs.declared.load.Refusal.{Refusal}

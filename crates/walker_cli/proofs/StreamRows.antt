@@ -1,5 +1,5 @@
 -- From the way in which a run ended to what becomes of the commands of its input.
-use Rattle.std.proofs.Common.{◌≡◌, ℕ, ◌<◌, ◌≤◌, Bool, IsTrue, List, [], ◌⊎◌, inl, inr, refl, sym, ◌∙◌, ap, subst, length, arith}
+use Rattle.std.proofs.Common.{◌≡◌, ℕ, ◌<◌, ◌≤◌, IsTrue, List, [], ◌⊎◌, inl, inr, sym, ◌∙◌, ap, subst, length, arith}
 use Rattle.tile_model.specs.Tessellations.{TileKind}
 use Rattle.tree_model.specs.Automata.{TreeAutomaton}
 use Rattle.line_server.specs.Answering.{over_walks}
@@ -8,7 +8,6 @@ use Rattle.line_server.specs.Laws.{OutputsAgree}
 use Rattle.line_server.specs.Lines.{most_of_stream}
 use Rattle.line_server.specs.Answering.{Answering}
 use Rattle.line_server.specs.Endings.{IsBegun}
-use Rattle.walker_cli.specs.declared.status.Status.{Status}
 use Rattle.walker_cli.specs.declared.status.Status.TheVariants.{Done, Memory, ReadFault, WriteFault, InputTooLong}
 use Rattle.walker_cli.specs.declared.answer.Role.{Role}
 use Rattle.walker_cli.specs.declared.answer.Saying.{Saying}
@@ -19,7 +18,7 @@ use Rattle.walker_cli.specs.Due.{Serves, IsFileFault}
 use Rattle.walker_cli.specs.Outcome.{WritesNothing, IsOutside}
 use Rattle.walker_cli.specs.Serving.{OutputStands, LinesStand, RefusalStands, BeginningStands}
 use Rattle.walker_cli.specs.Promise.{IsOutsideOfStream, BeginsLine, AnswersStream}
-use Rattle.walker_cli.specs.Ending.{SaysLine, said, unsaid, unwritten, EndsStream, answered, cut_off, over_limit, broken_off, out_of_memory, IsSessionOf, EndsRun, no_plan, with_line, with_stream}
+use Rattle.walker_cli.specs.Ending.{said, unsaid, unwritten, answered, cut_off, over_limit, broken_off, out_of_memory, IsSessionOf, EndsRun, no_plan, with_line, with_stream}
 use Rattle.walker_cli.proofs.Classes.{fault_between}
 use Rattle.walker_cli.proofs.OverTree.{stands_over_tree}
 use Rattle.walker_cli.proofs.Streams.{nothing_begun}

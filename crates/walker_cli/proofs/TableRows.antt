@@ -1,5 +1,5 @@
 -- From the way in which a run ended to the rows of the table of answers.
-use Rattle.std.proofs.Common.{◌≡◌, ℕ, Bool, IsTrue, List, ◌++◌, codes, decimal, ◌⊎◌, inl, inr, refl, sym, ◌∙◌, ap, subst, append_assoc, length}
+use Rattle.std.proofs.Common.{◌≡◌, ℕ, IsTrue, List, ◌++◌, codes, decimal, ◌⊎◌, inl, inr, refl, sym, ◌∙◌, ap, subst, append_assoc, length}
 use Rattle.tile_model.specs.Tessellations.{TileKind}
 use Rattle.tile_model.specs.Walks.{type_of}
 use Rattle.tree_model.specs.Automata.{TreeAutomaton}
@@ -7,7 +7,6 @@ use Rattle.way_io.specs.Counts.{Rose}
 use Rattle.line_server.specs.Answering.{Answering}
 use Rattle.walker_cli.specs.declared.status.Status.{Status}
 use Rattle.walker_cli.specs.declared.status.Status.TheVariants.{Done, Usage as UsageStatus, FileFault as FileFaultStatus, Memory, WriteFault}
-use Rattle.walker_cli.specs.declared.answer.Role.{Role}
 use Rattle.walker_cli.specs.declared.answer.Saying.{Saying}
 use Rattle.walker_cli.specs.declared.answer.Saying.TheVariants.{Due, FileFault}
 use Rattle.walker_cli.specs.declared.answer.Answer.{Answer}
