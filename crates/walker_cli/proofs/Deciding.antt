@@ -5,7 +5,7 @@ use Rattle.tile_model.specs.declared.Letter.{Letter}
 use Rattle.tile_model.specs.Tessellations.{TileKind}
 use Rattle.tile_model.specs.Validity.{IsValid}
 use Rattle.tile_model.specs.Walks.{type_of}
-use Rattle.tile_kinds.specs.declared.fault.KindFault.{KindFault}
+use Rattle.tile_model.specs.declared.fault.KindFault.{KindFault}
 use Rattle.tree_model.specs.Automata.{TreeAutomaton}
 use Rattle.tree_model.specs.Conditions.{IsAccepted}
 use Rattle.tess_text.specs.Grammar.{IsFirstBadLine}
@@ -15,28 +15,38 @@ use Rattle.rules_file.specs.declared.fault.Part.{Part}
 use Rattle.rules_file.specs.Spelling.{IsTextOf, IsRulesFile}
 use Rattle.rules_file.specs.Faults.{IsFirstFault}
 use Rattle.structure_check.specs.Broken.{IsFirstBroken}
-use Rattle.walk_words.specs.Text.{walk_text}
+use Rattle.tile_model.specs.WalkTexts.{walk_text}
+use Rattle.walker_cli.specs.declared.answer.Role.{Role}
 use Rattle.walker_cli.specs.declared.answer.Role.TheVariants.{Tess, Rules}
 use Rattle.walker_cli.specs.declared.answer.Answer.{Answer}
-use Rattle.walker_cli.specs.declared.answer.Answer.TheVariants.{LeadsTo, Accepted, Usage, FileTooLong, TessLine, TessKinds, RulesSyntax, RulesShape, Broken}
+use Rattle.walker_cli.specs.declared.answer.Answer.TheVariants.{TypeTold, Accepted, Usage, FileTooLong, TessLine, TessKinds, RulesSyntax, RulesShape}
 use Rattle.walker_cli.specs.declared.load.Refusal.{Refusal}
-use Rattle.walker_cli.specs.declared.load.Refusal.TheVariants.{Answered, Failed, Memory}
-use Rattle.walker_cli.specs.Tasks.{Task, TellType, CheckRules, RunSession, Ask, HaveNoForm, tess_of, LacksKind}
-use Rattle.walker_cli.specs.Held.{Loaded, Refused, Outcome, Holds, HoldsTooMany, IsTess, IsRules, tess_limit, rules_limit, tess_too_long, tess_line, tess_kinds, tess_loaded, rules_too_long, rules_syntax, rules_shape, rules_broken, rules_loaded}
-use Rattle.walker_cli.specs.Due.{Call, IsDue, no_form, no_tess, no_kind, type_told, no_rules, rules_accepted, no_session}
-use Rattle.walker_cli.specs.Loading.{IsRefusedAs, IsOfOutside, IsDueOf}
-use Rattle.walk_words.proofs.Codes.{one_walk}
+use Rattle.walker_cli.specs.declared.answer.Saying.TheVariants.{Due, FileFault}
+use Rattle.walker_cli.specs.declared.load.Refusal.TheVariants.{Said, Memory}
+use Rattle.walker_cli.specs.Tasks.{Task, TellType, CheckRules, RunSession, Ask, HaveNoForm}
+use Rattle.walker_cli.specs.Held.{Loaded, Refused, Outcome, Holds, HoldsTooMany, IsTess, IsRules, tess_limit, rules_limit, broken_at, tess_too_long, tess_line, tess_kinds, tess_loaded, rules_too_long, rules_syntax, rules_shape, rules_broken, rules_loaded}
+use Rattle.walker_cli.specs.Runs.{Call}
+use Rattle.walker_cli.specs.Due.{Contents, TypeRow, type_no_tess, type_no_kind, type_told, CheckRow, check_no_tess, check_no_rules, check_accepted, Row, FetchesFor, IsDue, no_form, by_task}
+use Rattle.walker_cli.specs.Loading.{IsRefusedAs, IsOfOutside, IfPlan, FitsTask, ServesOver}
+use Rattle.tile_model.proofs.WalkTexts.{one_walk}
 
 -- what a refusal that tells of the outside is taken for
 pub outside_comes : (answer : Answer) (refusal : Refusal) → IsOfOutside refusal → IsRefusedAs answer refusal
-outside_comes answer (Answered other) outside = absurd outside
-outside_comes answer (Failed role) outside = tt
+outside_comes answer (Said (Due other)) outside = absurd outside
+outside_comes answer (Said (FileFault role)) outside = tt
 outside_comes answer Memory outside = tt
 
-pub refusal_due : (call : Call) (refusal : Refusal) → ((answer : Answer) → refusal ≡ Answered answer → IsDue call answer) → IsDueOf call (Err refusal)
-refusal_due call (Answered answer) due = due answer refl
-refusal_due call (Failed role) due = tt
-refusal_due call Memory due = tt
+pub outside_serves : (kinds : List TileKind) (a : TreeAutomaton) (k : ℕ) (refusal : Refusal) → IsOfOutside refusal → IfPlan (Err refusal) (ServesOver kinds a k)
+outside_serves kinds a k (Said saying) outside = outside
+outside_serves kinds a k Memory outside = tt
+
+pub refusal_fits : (contents : Contents) (task : Task) (refusal : Refusal)
+    → ((answer : Answer) → refusal ≡ Said (Due answer) → Row contents task answer)
+    → ((role : Role) → refusal ≡ Said (FileFault role) → FetchesFor contents task role)
+    → IfPlan (Err refusal) (FitsTask contents task)
+refusal_fits contents task (Said (Due answer)) row fetches = row answer refl
+refusal_fits contents task (Said (FileFault role)) row fetches = fetches role refl
+refusal_fits contents task Memory row fetches = tt
 
 -- words ask for one task
 pub one_task : (words : List (List ℕ)) (task other : Task) → Ask words task → Ask words other → task ≡ other
@@ -78,59 +88,40 @@ tess_comes contents file view r known (tess_line bytes n holds bad) = known.bad_
 tess_comes contents file view r known (tess_kinds bytes fault holds bad) = known.bad_kinds bytes fault holds bad
 tess_comes contents file view r known (tess_loaded bytes kinds holds spelling valid) = known.loaded bytes kinds holds spelling valid
 
--- the rows of the table for words that ask for a type
-pub data KindRow (call : Call) (tess : List ℕ) (k : ℕ) (walk : List Letter) : Answer → Type 0 where
-  kind_refused : (answer : Answer) → IsTess call.contents tess (Refused answer) → KindRow call tess k walk answer
-  kind_lacking : (kinds : List TileKind) → IsTess call.contents tess (Loaded kinds) → length kinds ≤ k → KindRow call tess k walk Usage
-  kind_told : (kinds : List TileKind) → IsTess call.contents tess (Loaded kinds) → k < length kinds → KindRow call tess k walk (LeadsTo (type_of kinds (k, 0) walk))
-
-pub kind_row : (call : Call) (tess : List ℕ) (k : ℕ) (walk : List Letter) → Ask call.words (TellType tess k walk) → {answer : Answer} → IsDue call answer → KindRow call tess k walk answer
-kind_row call tess k walk ask (no_form none) = absurd (none (TellType tess k walk) ask)
-kind_row call tess k walk ask (no_tess task answer other is) =
-    let same = one_task call.words task (TellType tess k walk) other ask in
-    kind_refused answer (subst (λ (t : Task). IsTess call.contents (tess_of t) (Refused answer)) same is)
-kind_row call tess k walk ask (no_kind task kinds other is lacks) =
-    let same = one_task call.words task (TellType tess k walk) other ask in
-    kind_lacking kinds (subst (λ (t : Task). IsTess call.contents (tess_of t) (Loaded kinds)) same is) (subst (λ (t : Task). LacksKind t (length kinds)) same lacks)
-kind_row call tess k walk ask (type_told tess' k' walk' kinds other is lt) =
-    let same = one_task call.words (TellType tess' k' walk') (TellType tess k walk) other ask in
-    let same_tess : tess' ≡ tess = cc same in
-    let same_kind : k' ≡ k = cc same in
-    let same_walk : walk' ≡ walk = cc same in
-    subst (λ (a : Answer). KindRow call tess k walk a) (λ i. LeadsTo (type_of kinds (sym same_kind i, 0) (sym same_walk i)))
-    (kind_told kinds (subst (λ (f : List ℕ). IsTess call.contents f (Loaded kinds)) same_tess is) (subst (λ (n : ℕ). n < length kinds) same_kind lt))
-kind_row call tess k walk ask (no_rules tess' rules kinds answer other is refused) = absurd (cc (one_task call.words (CheckRules tess' rules) (TellType tess k walk) other ask))
-kind_row call tess k walk ask (rules_accepted tess' rules kinds a other is loaded) = absurd (cc (one_task call.words (CheckRules tess' rules) (TellType tess k walk) other ask))
-kind_row call tess k walk ask (no_session tess' k' rules kinds answer other is lt refused) = absurd (cc (one_task call.words (RunSession tess' k' rules) (TellType tess k walk) other ask))
+-- an answer that is due to words that ask for a task stands in the rows of that task
+pub row_of : (call : Call) (task : Task) → Ask call.words task → {answer : Answer} → IsDue call answer → Row call.contents task answer
+row_of call task ask (no_form none) = absurd (none task ask)
+row_of call task ask (by_task other answer asked row) =
+    subst (λ (t : Task). Row call.contents t answer) (one_task call.words other task asked ask) row
 
 -- the three ways in which telling a type ends
-pub kind_unread : {T : Type 0} (call : Call) (tess : List ℕ) (k : ℕ) (walk : List Letter) (view : T → List TileKind) (refusal : Refusal) → TessRead {T = T} call.contents tess view (Err refusal) → {answer : Answer} → KindRow call tess k walk answer → IsRefusedAs answer refusal
-kind_unread call tess k walk view refusal known (kind_refused answer is) = tess_comes call.contents tess view (Err refusal) known is
-kind_unread call tess k walk view refusal known (kind_lacking kinds is lacks) = outside_comes Usage refusal (tess_comes call.contents tess view (Err refusal) known is)
-kind_unread call tess k walk view refusal known (kind_told kinds is lt) = outside_comes (LeadsTo (type_of kinds (k, 0) walk)) refusal (tess_comes call.contents tess view (Err refusal) known is)
+pub type_unread : {T : Type 0} (contents : Contents) (tess : List ℕ) (k : ℕ) (walk : List Letter) (view : T → List TileKind) (refusal : Refusal) → TessRead {T = T} contents tess view (Err refusal) → {answer : Answer} → TypeRow contents tess k walk answer → IsRefusedAs answer refusal
+type_unread contents tess k walk view refusal known (type_no_tess answer is) = tess_comes contents tess view (Err refusal) known is
+type_unread contents tess k walk view refusal known (type_no_kind kinds is lacks) = outside_comes Usage refusal (tess_comes contents tess view (Err refusal) known is)
+type_unread contents tess k walk view refusal known (type_told kinds is lt) = outside_comes (TypeTold (type_of kinds (k, 0) walk)) refusal (tess_comes contents tess view (Err refusal) known is)
 
-pub kind_missing : {T : Type 0} (call : Call) (tess : List ℕ) (k : ℕ) (walk : List Letter) (view : T → List TileKind) (t : T) → TessRead call.contents tess view (Ok t) → length (view t) ≤ k → {answer : Answer} → KindRow call tess k walk answer → Usage ≡ answer
-kind_missing call tess k walk view t known few (kind_refused answer is) = absurd (tess_comes call.contents tess view (Ok t) known is)
-kind_missing call tess k walk view t known few (kind_lacking kinds is lacks) = refl
-kind_missing call tess k walk view t known few (kind_told kinds is lt) =
-    let same : view t ≡ kinds = tess_comes call.contents tess view (Ok t) known is in
+pub type_missing : {T : Type 0} (contents : Contents) (tess : List ℕ) (k : ℕ) (walk : List Letter) (view : T → List TileKind) (t : T) → TessRead contents tess view (Ok t) → length (view t) ≤ k → {answer : Answer} → TypeRow contents tess k walk answer → Usage ≡ answer
+type_missing contents tess k walk view t known few (type_no_tess answer is) = absurd (tess_comes contents tess view (Ok t) known is)
+type_missing contents tess k walk view t known few (type_no_kind kinds is lacks) = refl
+type_missing contents tess k walk view t known few (type_told kinds is lt) =
+    let same : view t ≡ kinds = tess_comes contents tess view (Ok t) known is in
     absurd (omega (arith, ap length same, few, lt))
 
-pub kind_leads : {T : Type 0} (call : Call) (tess : List ℕ) (k : ℕ) (walk : List Letter) (view : T → List TileKind) (t : T) → TessRead call.contents tess view (Ok t) → k < length (view t) → {answer : Answer} → KindRow call tess k walk answer → LeadsTo (type_of (view t) (k, 0) walk) ≡ answer
-kind_leads call tess k walk view t known lt (kind_refused answer is) = absurd (tess_comes call.contents tess view (Ok t) known is)
-kind_leads call tess k walk view t known lt (kind_lacking kinds is lacks) =
-    let same : view t ≡ kinds = tess_comes call.contents tess view (Ok t) known is in
+pub type_leads : {T : Type 0} (contents : Contents) (tess : List ℕ) (k : ℕ) (walk : List Letter) (view : T → List TileKind) (t : T) → TessRead contents tess view (Ok t) → k < length (view t) → {answer : Answer} → TypeRow contents tess k walk answer → TypeTold (type_of (view t) (k, 0) walk) ≡ answer
+type_leads contents tess k walk view t known lt (type_no_tess answer is) = absurd (tess_comes contents tess view (Ok t) known is)
+type_leads contents tess k walk view t known lt (type_no_kind kinds is lacks) =
+    let same : view t ≡ kinds = tess_comes contents tess view (Ok t) known is in
     absurd (omega (arith, ap length same, lacks, lt))
-kind_leads call tess k walk view t known lt (kind_told kinds is few) =
-    let same : view t ≡ kinds = tess_comes call.contents tess view (Ok t) known is in
-    λ i. LeadsTo (type_of (same i) (k, 0) walk)
+type_leads contents tess k walk view t known lt (type_told kinds is few) =
+    let same : view t ≡ kinds = tess_comes contents tess view (Ok t) known is in
+    λ i. TypeTold (type_of (same i) (k, 0) walk)
 
 -- what is known of the rules that are read from a file, or of the refusal
 pub record RulesRead {T : Type 0} (contents : List ℕ → Option (List ℕ)) (kinds : List TileKind) (file : List ℕ) (view : T → TreeAutomaton) (r : Result T Refusal) : Type 0 where
   pub too_long : HoldsTooMany contents file rules_limit → MatchResult r (λ _. ⊥) (IsRefusedAs (FileTooLong Rules))
   pub no_text : (bytes : List ℕ) → Holds contents file rules_limit bytes → ((d : Data) → ¬ (IsTextOf bytes d)) → MatchResult r (λ _. ⊥) (IsRefusedAs RulesSyntax)
   pub misshapen : (bytes : List ℕ) (d : Data) (part : Part) (i : ℕ) → Holds contents file rules_limit bytes → IsTextOf bytes d → IsFirstFault d part i → MatchResult r (λ _. ⊥) (IsRefusedAs (RulesShape part i))
-  pub broken : (bytes : List ℕ) (a : TreeAutomaton) (n first second : ℕ) → Holds contents file rules_limit bytes → IsRulesFile bytes a → IsFirstBroken kinds a n first second → MatchResult r (λ _. ⊥) (IsRefusedAs (Broken (record { condition = n; first = first; second = second })))
+  pub broken : (bytes : List ℕ) (a : TreeAutomaton) (n first second : ℕ) → Holds contents file rules_limit bytes → IsRulesFile bytes a → IsFirstBroken kinds a n first second → MatchResult r (λ _. ⊥) (IsRefusedAs (broken_at n first second))
   pub loaded : (bytes : List ℕ) (a : TreeAutomaton) → Holds contents file rules_limit bytes → IsRulesFile bytes a → IsAccepted kinds a → MatchResult r (λ t. view t ≡ a) IsOfOutside
 
 abbrev pub RulesCome : {T : Type 0} → (T → TreeAutomaton) → Result T Refusal → Outcome TreeAutomaton → Type 0
@@ -144,56 +135,29 @@ rules_come contents kinds file view r known (rules_shape bytes d part index hold
 rules_come contents kinds file view r known (rules_broken bytes a n first second holds spelled broken) = known.broken bytes a n first second holds spelled broken
 rules_come contents kinds file view r known (rules_loaded bytes a holds spelled accepted) = known.loaded bytes a holds spelled accepted
 
--- the rows of the table for words that ask for a check
-pub data CheckRow (call : Call) (tess rules : List ℕ) : Answer → Type 0 where
-  check_refused : (answer : Answer) → IsTess call.contents tess (Refused answer) → CheckRow call tess rules answer
-  check_broken : (kinds : List TileKind) (answer : Answer) → IsTess call.contents tess (Loaded kinds) → IsRules call.contents kinds rules (Refused answer) → CheckRow call tess rules answer
-  check_accepted : (kinds : List TileKind) (a : TreeAutomaton) → IsTess call.contents tess (Loaded kinds) → IsRules call.contents kinds rules (Loaded a) → CheckRow call tess rules (Accepted (length a.states) (length a.corners))
-
-pub check_row : (call : Call) (tess rules : List ℕ) → Ask call.words (CheckRules tess rules) → {answer : Answer} → IsDue call answer → CheckRow call tess rules answer
-check_row call tess rules ask (no_form none) = absurd (none (CheckRules tess rules) ask)
-check_row call tess rules ask (no_tess task answer other is) =
-    let same = one_task call.words task (CheckRules tess rules) other ask in
-    check_refused answer (subst (λ (t : Task). IsTess call.contents (tess_of t) (Refused answer)) same is)
-check_row call tess rules ask (no_kind task kinds other is lacks) =
-    let same = one_task call.words task (CheckRules tess rules) other ask in
-    absurd (subst (λ (t : Task). LacksKind t (length kinds)) same lacks)
-check_row call tess rules ask (type_told tess' k' walk' kinds other is lt) = absurd (cc (one_task call.words (TellType tess' k' walk') (CheckRules tess rules) other ask))
-check_row call tess rules ask (no_rules tess' rules' kinds answer other is refused) =
-    let same = one_task call.words (CheckRules tess' rules') (CheckRules tess rules) other ask in
-    let same_tess : tess' ≡ tess = cc same in
-    let same_rules : rules' ≡ rules = cc same in
-    check_broken kinds answer (subst (λ (f : List ℕ). IsTess call.contents f (Loaded kinds)) same_tess is) (subst (λ (f : List ℕ). IsRules call.contents kinds f (Refused answer)) same_rules refused)
-check_row call tess rules ask (rules_accepted tess' rules' kinds a other is loaded) =
-    let same = one_task call.words (CheckRules tess' rules') (CheckRules tess rules) other ask in
-    let same_tess : tess' ≡ tess = cc same in
-    let same_rules : rules' ≡ rules = cc same in
-    check_accepted kinds a (subst (λ (f : List ℕ). IsTess call.contents f (Loaded kinds)) same_tess is) (subst (λ (f : List ℕ). IsRules call.contents kinds f (Loaded a)) same_rules loaded)
-check_row call tess rules ask (no_session tess' k' rules' kinds answer other is lt refused) = absurd (cc (one_task call.words (RunSession tess' k' rules') (CheckRules tess rules) other ask))
-
 -- the three ways in which a check ends
-pub check_unread : {T : Type 0} (call : Call) (tess rules : List ℕ) (view : T → List TileKind) (refusal : Refusal) → TessRead {T = T} call.contents tess view (Err refusal) → {answer : Answer} → CheckRow call tess rules answer → IsRefusedAs answer refusal
-check_unread call tess rules view refusal known (check_refused answer is) = tess_comes call.contents tess view (Err refusal) known is
-check_unread call tess rules view refusal known (check_broken kinds answer is refused) = outside_comes answer refusal (tess_comes call.contents tess view (Err refusal) known is)
-check_unread call tess rules view refusal known (check_accepted kinds a is loaded) = outside_comes (Accepted (length a.states) (length a.corners)) refusal (tess_comes call.contents tess view (Err refusal) known is)
+pub check_unread : {T : Type 0} (contents : Contents) (tess rules : List ℕ) (view : T → List TileKind) (refusal : Refusal) → TessRead {T = T} contents tess view (Err refusal) → {answer : Answer} → CheckRow contents tess rules answer → IsRefusedAs answer refusal
+check_unread contents tess rules view refusal known (check_no_tess answer is) = tess_comes contents tess view (Err refusal) known is
+check_unread contents tess rules view refusal known (check_no_rules kinds answer is refused) = outside_comes answer refusal (tess_comes contents tess view (Err refusal) known is)
+check_unread contents tess rules view refusal known (check_accepted kinds a is loaded) = outside_comes (Accepted (length a.states) (length a.corners)) refusal (tess_comes contents tess view (Err refusal) known is)
 
-pub check_failed : {T S : Type 0} (call : Call) (tess rules : List ℕ) (view : T → List TileKind) (t : T) (tables : S → TreeAutomaton) (refusal : Refusal) → TessRead call.contents tess view (Ok t) → RulesRead {T = S} call.contents (view t) rules tables (Err refusal) → {answer : Answer} → CheckRow call tess rules answer → IsRefusedAs answer refusal
-check_failed call tess rules view t tables refusal known read (check_refused answer is) = absurd (tess_comes call.contents tess view (Ok t) known is)
-check_failed call tess rules view t tables refusal known read (check_broken kinds answer is refused) =
-    let same : view t ≡ kinds = tess_comes call.contents tess view (Ok t) known is in
-    rules_come call.contents (view t) rules tables (Err refusal) read (subst (λ (ks : List TileKind). IsRules call.contents ks rules (Refused answer)) (sym same) refused)
-check_failed call tess rules view t tables refusal known read (check_accepted kinds a is loaded) =
-    let same : view t ≡ kinds = tess_comes call.contents tess view (Ok t) known is in
-    outside_comes (Accepted (length a.states) (length a.corners)) refusal (rules_come call.contents (view t) rules tables (Err refusal) read (subst (λ (ks : List TileKind). IsRules call.contents ks rules (Loaded a)) (sym same) loaded))
+pub check_failed : {T S : Type 0} (contents : Contents) (tess rules : List ℕ) (view : T → List TileKind) (t : T) (tables : S → TreeAutomaton) (refusal : Refusal) → TessRead contents tess view (Ok t) → RulesRead {T = S} contents (view t) rules tables (Err refusal) → {answer : Answer} → CheckRow contents tess rules answer → IsRefusedAs answer refusal
+check_failed contents tess rules view t tables refusal known read (check_no_tess answer is) = absurd (tess_comes contents tess view (Ok t) known is)
+check_failed contents tess rules view t tables refusal known read (check_no_rules kinds answer is refused) =
+    let same : view t ≡ kinds = tess_comes contents tess view (Ok t) known is in
+    rules_come contents (view t) rules tables (Err refusal) read (subst (λ (ks : List TileKind). IsRules contents ks rules (Refused answer)) (sym same) refused)
+check_failed contents tess rules view t tables refusal known read (check_accepted kinds a is loaded) =
+    let same : view t ≡ kinds = tess_comes contents tess view (Ok t) known is in
+    outside_comes (Accepted (length a.states) (length a.corners)) refusal (rules_come contents (view t) rules tables (Err refusal) read (subst (λ (ks : List TileKind). IsRules contents ks rules (Loaded a)) (sym same) loaded))
 
-pub check_passed : {T S : Type 0} (call : Call) (tess rules : List ℕ) (view : T → List TileKind) (t : T) (tables : S → TreeAutomaton) (s : S) → TessRead call.contents tess view (Ok t) → RulesRead call.contents (view t) rules tables (Ok s) → {answer : Answer} → CheckRow call tess rules answer → Accepted (length (tables s).states) (length (tables s).corners) ≡ answer
-check_passed call tess rules view t tables s known read (check_refused answer is) = absurd (tess_comes call.contents tess view (Ok t) known is)
-check_passed call tess rules view t tables s known read (check_broken kinds answer is refused) =
-    let same : view t ≡ kinds = tess_comes call.contents tess view (Ok t) known is in
-    absurd (rules_come call.contents (view t) rules tables (Ok s) read (subst (λ (ks : List TileKind). IsRules call.contents ks rules (Refused answer)) (sym same) refused))
-check_passed call tess rules view t tables s known read (check_accepted kinds a is loaded) =
-    let same : view t ≡ kinds = tess_comes call.contents tess view (Ok t) known is in
-    let one : tables s ≡ a = rules_come call.contents (view t) rules tables (Ok s) read (subst (λ (ks : List TileKind). IsRules call.contents ks rules (Loaded a)) (sym same) loaded) in
+pub check_passed : {T S : Type 0} (contents : Contents) (tess rules : List ℕ) (view : T → List TileKind) (t : T) (tables : S → TreeAutomaton) (s : S) → TessRead contents tess view (Ok t) → RulesRead contents (view t) rules tables (Ok s) → {answer : Answer} → CheckRow contents tess rules answer → Accepted (length (tables s).states) (length (tables s).corners) ≡ answer
+check_passed contents tess rules view t tables s known read (check_no_tess answer is) = absurd (tess_comes contents tess view (Ok t) known is)
+check_passed contents tess rules view t tables s known read (check_no_rules kinds answer is refused) =
+    let same : view t ≡ kinds = tess_comes contents tess view (Ok t) known is in
+    absurd (rules_come contents (view t) rules tables (Ok s) read (subst (λ (ks : List TileKind). IsRules contents ks rules (Refused answer)) (sym same) refused))
+check_passed contents tess rules view t tables s known read (check_accepted kinds a is loaded) =
+    let same : view t ≡ kinds = tess_comes contents tess view (Ok t) known is in
+    let one : tables s ≡ a = rules_come contents (view t) rules tables (Ok s) read (subst (λ (ks : List TileKind). IsRules contents ks rules (Loaded a)) (sym same) loaded) in
     λ i. Accepted (length (one i).states) (length (one i).corners)
 
 -- what is known of a file holds of what the files held before they were last read
@@ -206,9 +170,4 @@ read_kept same kinds file view r known = subst (λ (contents : List ℕ → Opti
 -- words in no form are answered in one way
 pub formless : (call : Call) → HaveNoForm call.words → {answer : Answer} → IsDue call answer → answer ≡ Usage
 formless call none (no_form n) = refl
-formless call none (no_tess task answer ask is) = absurd (none task ask)
-formless call none (no_kind task kinds ask is lacks) = refl
-formless call none (type_told tess k walk kinds ask is lt) = absurd (none (TellType tess k walk) ask)
-formless call none (no_rules tess rules kinds answer ask is refused) = absurd (none (CheckRules tess rules) ask)
-formless call none (rules_accepted tess rules kinds a ask is loaded) = absurd (none (CheckRules tess rules) ask)
-formless call none (no_session tess k rules kinds answer ask is lt refused) = absurd (none (RunSession tess k rules) ask)
+formless call none (by_task task answer ask row) = absurd (none task ask)

@@ -1,10 +1,12 @@
-pub mod Numbers
 pub mod Lists
 pub mod Reading
 pub mod Deciding
 pub mod Sessions
 pub mod Settling
-pub mod Ending
+pub mod Classes
+pub mod TableRows
+pub mod StreamRows
+pub mod Promised
 pub mod Streams
 pub mod Plans
 pub mod OverTree

@@ -1,29 +1,27 @@
 -- What walks say of the output, the tree of the rules says too.
-use Rattle.std.proofs.Common.{ℕ, List, [], inl, inr}
+use Rattle.std.proofs.Common.{ℕ, List, []}
 use Rattle.tile_model.specs.Tessellations.{TileKind}
 use Rattle.tree_model.specs.Automata.{TreeAutomaton}
-use Rattle.reply_model.specs.Readings.{IsTreeReply}
-use Rattle.reply_model.specs.WalkReadings.{IsWalkReply}
-use Rattle.session_core.proofs.BothReadings.{readings_agree}
-use Rattle.line_server.proofs.SameOutput.{output_again}
-use Rattle.walker_cli.specs.declared.status.Status.{Status}
-use Rattle.walker_cli.specs.Due.{Call, Serves}
-use Rattle.walker_cli.specs.Serving.{OutputStands, StreamIsAnswered, StreamIsAnsweredOverTree}
+use Rattle.tree_laws.specs.Laws.{OfEachTree}
+use Rattle.line_server.specs.Answering.{over_walks, over_tree}
+use Rattle.line_server.specs.Laws.{OutputsAgree}
+use Rattle.walker_cli.specs.Runs.{Call}
+use Rattle.walker_cli.specs.Due.{Serves}
+use Rattle.walker_cli.specs.Serving.{OutputStands}
 
-stands_over_tree : (call : Call) (kinds : List TileKind) (a : TreeAutomaton) (k : ℕ) (left left' taken taken' : List ℕ) → Serves call kinds a k → OutputStands (IsWalkReply kinds a k) left left' taken taken' → OutputStands (IsTreeReply kinds a k) left left' taken taken'
-stands_over_tree call kinds a k left left' taken taken' s o = record {
+pub stands_over_tree : OfEachTree OutputsAgree
+    → (call : Call) (kinds : List TileKind) (a : TreeAutomaton) (k : ℕ)
+    → (left left' taken taken' : List ℕ)
+    → Serves call kinds a k
+    → OutputStands (over_walks kinds a k) left left' taken taken'
+    → OutputStands (over_tree kinds a k) left left' taken taken'
+stands_over_tree agree call kinds a k left left' taken taken' s o = record {
   after = o.after;
   served = record {
     read = o.served.read;
     within = o.served.within;
     out = o.served.out;
-    output = output_again (IsWalkReply kinds a k) (IsTreeReply kinds a k) (λ h c x. (readings_agree kinds a k s.valid s.accepted s.is_kind h c x).1) [] left o.served.out o.after o.served.output;
+    output = (agree kinds a k s.valid s.accepted s.is_kind [] left o.served.out o.after).0 o.served.output;
     written = o.served.written;
   };
 }
-
-pub answered_over_tree : (call : Call) (result : Status) (left left' taken taken' : List ℕ) → StreamIsAnswered call result left left' taken taken' → StreamIsAnsweredOverTree call result left left' taken taken'
-answered_over_tree call result left left' taken taken' told = λ kinds a k s few. elim (told kinds a k s few) [
-  | inl done ↦ inl (done.0, stands_over_tree call kinds a k left left' taken taken' s done.1)
-  | inr outside ↦ inr outside
-]

@@ -1,8 +1,9 @@
 -- What a list of words that begins with a form's word may ask for.
 use Rattle.std.proofs.Common.{◌≡◌, ℕ, List, [], ◌∷◌, codes, Option, Some, None, IfNone, sym, ◌∙◌, ap, subst}
 use Rattle.tile_model.specs.declared.Letter.{Letter}
-use Rattle.walk_words.specs.Text.{walk_text}
-use Rattle.walker_cli.specs.Tasks.{Task, TellType, CheckRules, RunSession, IsNumber, IsKindForm, IsRunForm, Ask}
+use Rattle.tile_model.specs.WalkTexts.{walk_text}
+use Rattle.short_numbers.specs.Numbers.{IsNumber}
+use Rattle.walker_cli.specs.Tasks.{Task, TellType, CheckRules, RunSession, IsKindForm, IsRunForm, Ask}
 
 -- a kind and a walk that two words write
 pub record IsStart (digits letters : List ℕ) (n : ℕ) (walk : List Letter) : Type 0 where

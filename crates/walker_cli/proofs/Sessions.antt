@@ -1,115 +1,75 @@
 -- From what the files hold to a session, or to the answer that refuses it.
-use Rattle.std.proofs.Common.{◌≡◌, ℕ, ◌<◌, ◌≤◌, List, Option, Ok, Err, length, refl, sym, ap, subst, arith}
+use Rattle.std.proofs.Common.{◌≡◌, ℕ, ◌<◌, ◌≤◌, List, Option, Result, Ok, Err, length, refl, sym, ap, subst, arith}
 use Rattle.tile_model.specs.Tessellations.{TileKind}
 use Rattle.tile_model.specs.Validity.{IsValid}
 use Rattle.tree_model.specs.Automata.{TreeAutomaton}
 use Rattle.tree_model.specs.Conditions.{IsAccepted}
 use Rattle.tess_text.specs.Spelling.{IsSpelling}
 use Rattle.rules_file.specs.Spelling.{IsRulesFile}
-use Rattle.structure_check.specs.Rules.{TreeRules}
 use Rattle.walker_cli.specs.declared.answer.Answer.{Answer}
 use Rattle.walker_cli.specs.declared.answer.Answer.TheVariants.{Usage}
 use Rattle.walker_cli.specs.declared.load.Refusal.{Refusal}
-use Rattle.walker_cli.specs.Tasks.{Task, TellType, CheckRules, RunSession, Ask, tess_of, LacksKind}
+use Rattle.walker_cli.specs.Tasks.{Task, TellType, CheckRules, RunSession, Ask}
 use Rattle.walker_cli.specs.Held.{Loaded, Refused, Outcome, Holds, IsTess, IsRules, tess_limit, rules_limit, tess_too_long, tess_line, tess_kinds, tess_loaded, rules_too_long, rules_syntax, rules_shape, rules_broken, rules_loaded}
-use Rattle.walker_cli.specs.Due.{Call, IsDue, Serves, no_form, no_tess, no_kind, type_told, no_rules, rules_accepted, no_session}
-use Rattle.walker_cli.specs.Loading.{IsRefusedAs, IsOfOutside}
+use Rattle.walker_cli.specs.Runs.{Call}
+use Rattle.walker_cli.specs.Due.{Contents, SessionRow, session_no_tess, session_no_kind, session_no_rules, by_task, Serves}
+use Rattle.walker_cli.specs.declared.answer.Saying.TheVariants.{Due, FileFault}
+use Rattle.walker_cli.specs.declared.decide.Plan.{Plan}
+use Rattle.walker_cli.specs.declared.decide.Plan.TheVariants.{Say, Serve}
+use Rattle.walker_cli.specs.declared.load.Refusal.TheVariants.{Said, Memory}
+use Rattle.walker_cli.specs.Loading.{IsRefusedAs, IsOfOutside, IfPlan, ServesFor, FitsTask, IsPlanDue}
 use Rattle.walker_cli.proofs.Deciding.{one_task, outside_comes, TessRead, RulesRead, tess_comes, rules_come}
 
--- the rows of the table for words that ask for a session
-pub data SessionRow (call : Call) (tess : List ℕ) (k : ℕ) (rules : List ℕ) : Answer → Type 0 where
-  session_refused : (answer : Answer) → IsTess call.contents tess (Refused answer) → SessionRow call tess k rules answer
-  session_lacking : (kinds : List TileKind) → IsTess call.contents tess (Loaded kinds) → length kinds ≤ k → SessionRow call tess k rules Usage
-  session_broken : (kinds : List TileKind) (answer : Answer) → IsTess call.contents tess (Loaded kinds) → k < length kinds → IsRules call.contents kinds rules (Refused answer) → SessionRow call tess k rules answer
-
-pub session_row : (call : Call) (tess : List ℕ) (k : ℕ) (rules : List ℕ) → Ask call.words (RunSession tess k rules) → {answer : Answer} → IsDue call answer → SessionRow call tess k rules answer
-session_row call tess k rules ask (no_form none) = absurd (none (RunSession tess k rules) ask)
-session_row call tess k rules ask (no_tess task answer other is) =
-    let same = one_task call.words task (RunSession tess k rules) other ask in
-    session_refused answer (subst (λ (t : Task). IsTess call.contents (tess_of t) (Refused answer)) same is)
-session_row call tess k rules ask (no_kind task kinds other is lacks) =
-    let same = one_task call.words task (RunSession tess k rules) other ask in
-    session_lacking kinds (subst (λ (t : Task). IsTess call.contents (tess_of t) (Loaded kinds)) same is) (subst (λ (t : Task). LacksKind t (length kinds)) same lacks)
-session_row call tess k rules ask (type_told tess' k' walk kinds other is lt) = absurd (cc (one_task call.words (TellType tess' k' walk) (RunSession tess k rules) other ask))
-session_row call tess k rules ask (no_rules tess' rules' kinds answer other is refused) = absurd (cc (one_task call.words (CheckRules tess' rules') (RunSession tess k rules) other ask))
-session_row call tess k rules ask (rules_accepted tess' rules' kinds a other is loaded) = absurd (cc (one_task call.words (CheckRules tess' rules') (RunSession tess k rules) other ask))
-session_row call tess k rules ask (no_session tess' k' rules' kinds answer other is lt refused) =
-    let same = one_task call.words (RunSession tess' k' rules') (RunSession tess k rules) other ask in
-    let same_tess : tess' ≡ tess = cc same in
-    let same_kind : k' ≡ k = cc same in
-    let same_rules : rules' ≡ rules = cc same in
-    session_broken kinds answer (subst (λ (f : List ℕ). IsTess call.contents f (Loaded kinds)) same_tess is) (subst (λ (n : ℕ). n < length kinds) same_kind lt) (subst (λ (f : List ℕ). IsRules call.contents kinds f (Refused answer)) same_rules refused)
-
 -- the four ways in which the opening of a session ends, where an answer is due
-pub session_unread : {T : Type 0} (call : Call) (tess : List ℕ) (k : ℕ) (rules : List ℕ) (view : T → List TileKind) (refusal : Refusal) → TessRead {T = T} call.contents tess view (Err refusal) → {answer : Answer} → SessionRow call tess k rules answer → IsRefusedAs answer refusal
-session_unread call tess k rules view refusal known (session_refused answer is) = tess_comes call.contents tess view (Err refusal) known is
-session_unread call tess k rules view refusal known (session_lacking kinds is lacks) = outside_comes Usage refusal (tess_comes call.contents tess view (Err refusal) known is)
-session_unread call tess k rules view refusal known (session_broken kinds answer is lt refused) = outside_comes answer refusal (tess_comes call.contents tess view (Err refusal) known is)
+pub session_unread : {T : Type 0} (contents : Contents) (tess : List ℕ) (k : ℕ) (rules : List ℕ) (view : T → List TileKind) (refusal : Refusal) → TessRead {T = T} contents tess view (Err refusal) → {answer : Answer} → SessionRow contents tess k rules answer → IsRefusedAs answer refusal
+session_unread contents tess k rules view refusal known (session_no_tess answer is) = tess_comes contents tess view (Err refusal) known is
+session_unread contents tess k rules view refusal known (session_no_kind kinds is lacks) = outside_comes Usage refusal (tess_comes contents tess view (Err refusal) known is)
+session_unread contents tess k rules view refusal known (session_no_rules kinds answer is lt refused) = outside_comes answer refusal (tess_comes contents tess view (Err refusal) known is)
 
-pub session_missing : {T : Type 0} (call : Call) (tess : List ℕ) (k : ℕ) (rules : List ℕ) (view : T → List TileKind) (t : T) → TessRead call.contents tess view (Ok t) → length (view t) ≤ k → {answer : Answer} → SessionRow call tess k rules answer → Usage ≡ answer
-session_missing call tess k rules view t known few (session_refused answer is) = absurd (tess_comes call.contents tess view (Ok t) known is)
-session_missing call tess k rules view t known few (session_lacking kinds is lacks) = refl
-session_missing call tess k rules view t known few (session_broken kinds answer is lt refused) =
-    let same : view t ≡ kinds = tess_comes call.contents tess view (Ok t) known is in
+pub session_missing : {T : Type 0} (contents : Contents) (tess : List ℕ) (k : ℕ) (rules : List ℕ) (view : T → List TileKind) (t : T) → TessRead contents tess view (Ok t) → length (view t) ≤ k → {answer : Answer} → SessionRow contents tess k rules answer → Usage ≡ answer
+session_missing contents tess k rules view t known few (session_no_tess answer is) = absurd (tess_comes contents tess view (Ok t) known is)
+session_missing contents tess k rules view t known few (session_no_kind kinds is lacks) = refl
+session_missing contents tess k rules view t known few (session_no_rules kinds answer is lt refused) =
+    let same : view t ≡ kinds = tess_comes contents tess view (Ok t) known is in
     absurd (omega (arith, ap length same, few, lt))
 
-pub session_failed : {T S : Type 0} (call : Call) (tess : List ℕ) (k : ℕ) (rules : List ℕ) (view : T → List TileKind) (t : T) (tables : S → TreeAutomaton) (refusal : Refusal) → TessRead call.contents tess view (Ok t) → RulesRead {T = S} call.contents (view t) rules tables (Err refusal) → k < length (view t) → {answer : Answer} → SessionRow call tess k rules answer → IsRefusedAs answer refusal
-session_failed call tess k rules view t tables refusal known read few (session_refused answer is) = absurd (tess_comes call.contents tess view (Ok t) known is)
-session_failed call tess k rules view t tables refusal known read few (session_lacking kinds is lacks) =
-    let same : view t ≡ kinds = tess_comes call.contents tess view (Ok t) known is in
+pub session_failed : {T S : Type 0} (contents : Contents) (tess : List ℕ) (k : ℕ) (rules : List ℕ) (view : T → List TileKind) (t : T) (tables : S → TreeAutomaton) (refusal : Refusal) → TessRead contents tess view (Ok t) → RulesRead {T = S} contents (view t) rules tables (Err refusal) → k < length (view t) → {answer : Answer} → SessionRow contents tess k rules answer → IsRefusedAs answer refusal
+session_failed contents tess k rules view t tables refusal known read few (session_no_tess answer is) = absurd (tess_comes contents tess view (Ok t) known is)
+session_failed contents tess k rules view t tables refusal known read few (session_no_kind kinds is lacks) =
+    let same : view t ≡ kinds = tess_comes contents tess view (Ok t) known is in
     absurd (omega (arith, ap length same, few, lacks))
-session_failed call tess k rules view t tables refusal known read few (session_broken kinds answer is lt refused) =
-    let same : view t ≡ kinds = tess_comes call.contents tess view (Ok t) known is in
-    rules_come call.contents (view t) rules tables (Err refusal) read (subst (λ (ks : List TileKind). IsRules call.contents ks rules (Refused answer)) (sym same) refused)
+session_failed contents tess k rules view t tables refusal known read few (session_no_rules kinds answer is lt refused) =
+    let same : view t ≡ kinds = tess_comes contents tess view (Ok t) known is in
+    rules_come contents (view t) rules tables (Err refusal) read (subst (λ (ks : List TileKind). IsRules contents ks rules (Refused answer)) (sym same) refused)
 
-pub session_opened : {T S : Type 0} (call : Call) (tess : List ℕ) (k : ℕ) (rules : List ℕ) (view : T → List TileKind) (t : T) (tables : S → TreeAutomaton) (s : S) → TessRead call.contents tess view (Ok t) → RulesRead call.contents (view t) rules tables (Ok s) → k < length (view t) → {answer : Answer} → SessionRow call tess k rules answer → ⊥
-session_opened call tess k rules view t tables s known read few (session_refused answer is) = absurd (tess_comes call.contents tess view (Ok t) known is)
-session_opened call tess k rules view t tables s known read few (session_lacking kinds is lacks) =
-    let same : view t ≡ kinds = tess_comes call.contents tess view (Ok t) known is in
+pub session_opened : {T S : Type 0} (contents : Contents) (tess : List ℕ) (k : ℕ) (rules : List ℕ) (view : T → List TileKind) (t : T) (tables : S → TreeAutomaton) (s : S) → TessRead contents tess view (Ok t) → RulesRead contents (view t) rules tables (Ok s) → k < length (view t) → {answer : Answer} → SessionRow contents tess k rules answer → ⊥
+session_opened contents tess k rules view t tables s known read few (session_no_tess answer is) = absurd (tess_comes contents tess view (Ok t) known is)
+session_opened contents tess k rules view t tables s known read few (session_no_kind kinds is lacks) =
+    let same : view t ≡ kinds = tess_comes contents tess view (Ok t) known is in
     absurd (omega (arith, ap length same, few, lacks))
-session_opened call tess k rules view t tables s known read few (session_broken kinds answer is lt refused) =
-    let same : view t ≡ kinds = tess_comes call.contents tess view (Ok t) known is in
-    rules_come call.contents (view t) rules tables (Ok s) read (subst (λ (ks : List TileKind). IsRules call.contents ks rules (Refused answer)) (sym same) refused)
+session_opened contents tess k rules view t tables s known read few (session_no_rules kinds answer is lt refused) =
+    let same : view t ≡ kinds = tess_comes contents tess view (Ok t) known is in
+    rules_come contents (view t) rules tables (Ok s) read (subst (λ (ks : List TileKind). IsRules contents ks rules (Refused answer)) (sym same) refused)
 
--- what the files of a session hold, by the names that the words give them
-pub record Opens (call : Call) (tess : List ℕ) (k : ℕ) (rules : List ℕ) (kinds : List TileKind) (a : TreeAutomaton) (k' : ℕ) : Type 0 where
-  pub tess_holds : IsTess call.contents tess (Loaded kinds)
-  pub rules_hold : IsRules call.contents kinds rules (Loaded a)
-  pub is_kind : k < length kinds
-  pub one_kind : k ≡ k'
+-- and where walkers are served
+pub served_unread : {T : Type 0} (contents : Contents) (tess : List ℕ) (k : ℕ) (rules : List ℕ) (kinds : List TileKind) (a : TreeAutomaton) (k' : ℕ) (view : T → List TileKind) (refusal : Refusal) → TessRead {T = T} contents tess view (Err refusal) → ServesFor contents (RunSession tess k rules) kinds a k' → IsOfOutside refusal
+served_unread contents tess k rules kinds a k' view refusal known opened = tess_comes contents tess view (Err refusal) known opened.0
 
-pub opens : (call : Call) (tess : List ℕ) (k : ℕ) (rules : List ℕ) (kinds : List TileKind) (a : TreeAutomaton) (k' : ℕ) → Ask call.words (RunSession tess k rules) → Serves call kinds a k' → Opens call tess k rules kinds a k'
-opens call tess k rules kinds a k' ask serves =
-    let same = one_task call.words (RunSession serves.tess k' serves.rules) (RunSession tess k rules) serves.form ask in
-    let same_tess : serves.tess ≡ tess = cc same in
-    let same_kind : k' ≡ k = cc same in
-    let same_rules : serves.rules ≡ rules = cc same in
-    record {
-      tess_holds = subst (λ (f : List ℕ). IsTess call.contents f (Loaded kinds)) same_tess (tess_loaded serves.tess_bytes kinds serves.holds_tess serves.tess_spelling serves.valid);
-      rules_hold = subst (λ (f : List ℕ). IsRules call.contents kinds f (Loaded a)) same_rules (rules_loaded serves.rules_bytes a serves.holds_rules serves.rules_spelling serves.accepted);
-      is_kind = subst (λ (n : ℕ). n < length kinds) same_kind serves.is_kind;
-      one_kind = sym same_kind;
-    }
-
--- and where the call serves
-pub served_unread : {T : Type 0} (call : Call) (tess : List ℕ) (k : ℕ) (rules : List ℕ) (kinds : List TileKind) (a : TreeAutomaton) (k' : ℕ) (view : T → List TileKind) (refusal : Refusal) → TessRead {T = T} call.contents tess view (Err refusal) → Opens call tess k rules kinds a k' → IsOfOutside refusal
-served_unread call tess k rules kinds a k' view refusal known opened = tess_comes call.contents tess view (Err refusal) known opened.tess_holds
-
-pub served_missing : {T : Type 0} (call : Call) (tess : List ℕ) (k : ℕ) (rules : List ℕ) (kinds : List TileKind) (a : TreeAutomaton) (k' : ℕ) (view : T → List TileKind) (t : T) → TessRead call.contents tess view (Ok t) → length (view t) ≤ k → Opens call tess k rules kinds a k' → ⊥
-served_missing call tess k rules kinds a k' view t known few opened =
-    let same : view t ≡ kinds = tess_comes call.contents tess view (Ok t) known opened.tess_holds in
-    let lt = opened.is_kind in
+pub served_missing : {T : Type 0} (contents : Contents) (tess : List ℕ) (k : ℕ) (rules : List ℕ) (kinds : List TileKind) (a : TreeAutomaton) (k' : ℕ) (view : T → List TileKind) (t : T) → TessRead contents tess view (Ok t) → length (view t) ≤ k → ServesFor contents (RunSession tess k rules) kinds a k' → ⊥
+served_missing contents tess k rules kinds a k' view t known few opened =
+    let same : view t ≡ kinds = tess_comes contents tess view (Ok t) known opened.0 in
+    let lt = opened.2 in
     omega (arith, ap length same, few, lt)
 
-pub served_failed : {T S : Type 0} (call : Call) (tess : List ℕ) (k : ℕ) (rules : List ℕ) (kinds : List TileKind) (a : TreeAutomaton) (k' : ℕ) (view : T → List TileKind) (t : T) (tables : S → TreeAutomaton) (refusal : Refusal) → TessRead call.contents tess view (Ok t) → RulesRead {T = S} call.contents (view t) rules tables (Err refusal) → Opens call tess k rules kinds a k' → IsOfOutside refusal
-served_failed call tess k rules kinds a k' view t tables refusal known read opened =
-    let same : view t ≡ kinds = tess_comes call.contents tess view (Ok t) known opened.tess_holds in
-    rules_come call.contents (view t) rules tables (Err refusal) read (subst (λ (ks : List TileKind). IsRules call.contents ks rules (Loaded a)) (sym same) opened.rules_hold)
+pub served_failed : {T S : Type 0} (contents : Contents) (tess : List ℕ) (k : ℕ) (rules : List ℕ) (kinds : List TileKind) (a : TreeAutomaton) (k' : ℕ) (view : T → List TileKind) (t : T) (tables : S → TreeAutomaton) (refusal : Refusal) → TessRead contents tess view (Ok t) → RulesRead {T = S} contents (view t) rules tables (Err refusal) → ServesFor contents (RunSession tess k rules) kinds a k' → IsOfOutside refusal
+served_failed contents tess k rules kinds a k' view t tables refusal known read opened =
+    let same : view t ≡ kinds = tess_comes contents tess view (Ok t) known opened.0 in
+    rules_come contents (view t) rules tables (Err refusal) read (subst (λ (ks : List TileKind). IsRules contents ks rules (Loaded a)) (sym same) opened.1)
 
-pub served_opened : {T S : Type 0} (call : Call) (tess : List ℕ) (k : ℕ) (rules : List ℕ) (kinds : List TileKind) (a : TreeAutomaton) (k' : ℕ) (view : T → List TileKind) (t : T) (tables : S → TreeAutomaton) (s : S) → TessRead call.contents tess view (Ok t) → RulesRead call.contents (view t) rules tables (Ok s) → Opens call tess k rules kinds a k' → (view t ≡ kinds) × (tables s ≡ a) × (k ≡ k')
-served_opened call tess k rules kinds a k' view t tables s known read opened =
-    let same : view t ≡ kinds = tess_comes call.contents tess view (Ok t) known opened.tess_holds in
-    (same, rules_come call.contents (view t) rules tables (Ok s) read (subst (λ (ks : List TileKind). IsRules call.contents ks rules (Loaded a)) (sym same) opened.rules_hold), opened.one_kind)
+pub served_opened : {T S : Type 0} (contents : Contents) (tess : List ℕ) (k : ℕ) (rules : List ℕ) (kinds : List TileKind) (a : TreeAutomaton) (k' : ℕ) (view : T → List TileKind) (t : T) (tables : S → TreeAutomaton) (s : S) → TessRead contents tess view (Ok t) → RulesRead contents (view t) rules tables (Ok s) → ServesFor contents (RunSession tess k rules) kinds a k' → (view t ≡ kinds) × (tables s ≡ a) × (k ≡ k')
+served_opened contents tess k rules kinds a k' view t tables s known read opened =
+    let same : view t ≡ kinds = tess_comes contents tess view (Ok t) known opened.0 in
+    (same, rules_come contents (view t) rules tables (Ok s) read (subst (λ (ks : List TileKind). IsRules contents ks rules (Loaded a)) (sym same) opened.1), opened.3)
 
 -- what a file holds whose tessellation is loaded
 record HoldsTess (contents : List ℕ → Option (List ℕ)) (file : List ℕ) (kinds : List TileKind) : Type 0 where
@@ -165,6 +125,36 @@ serves_loaded call tess k rules kinds a ask of_tess lt of_rules =
       is_kind = lt;
     }
 
--- a session over what was loaded is due
-pub session_due : (call : Call) (tess : List ℕ) (k : ℕ) (rules : List ℕ) (kinds : List TileKind) (r : TreeRules) → Ask call.words (RunSession tess k rules) → IsTess call.contents tess (Loaded kinds) → k < length kinds → IsRules call.contents kinds rules (Loaded r.automaton) → r.kinds ≡ kinds → Serves call r.kinds r.automaton k
-session_due call tess k rules kinds r ask of_tess lt of_rules same = subst (λ (ks : List TileKind). Serves call ks r.automaton k) (sym same) (serves_loaded call tess k rules kinds r.automaton ask of_tess lt of_rules)
+-- where walkers are served for the task that the words ask for, the call serves them
+pub serves_of : (call : Call) (task : Task) (kinds : List TileKind) (a : TreeAutomaton) (kind : ℕ)
+    → Ask call.words task → ServesFor call.contents task kinds a kind → Serves call kinds a kind
+serves_of call (TellType tess k walk) kinds a kind ask served = absurd served
+serves_of call (CheckRules tess rules) kinds a kind ask served = absurd served
+serves_of call (RunSession tess k rules) kinds a kind ask served =
+    subst (λ (n : ℕ). Serves call kinds a n) served.3
+    (serves_loaded call tess k rules kinds a ask served.0 served.2 served.1)
+
+-- and the other way round
+pub served_for : (call : Call) (task : Task) (kinds : List TileKind) (a : TreeAutomaton) (kind : ℕ)
+    → Ask call.words task → Serves call kinds a kind → ServesFor call.contents task kinds a kind
+served_for call task kinds a kind ask serves =
+    subst (λ (t : Task). ServesFor call.contents t kinds a kind)
+    (one_task call.words (RunSession serves.tess kind serves.rules) task serves.form ask) (
+      tess_loaded serves.tess_bytes kinds serves.holds_tess serves.tess_spelling serves.valid,
+      rules_loaded serves.rules_bytes a serves.holds_rules serves.rules_spelling serves.accepted,
+      serves.is_kind,
+      refl,
+    )
+
+-- a plan that fits the task that the words ask for is due
+pub fit_due : (call : Call) (task : Task) → Ask call.words task → (told : Result Plan Refusal)
+    → IfPlan told (FitsTask call.contents task) → IfPlan told (IsPlanDue call)
+fit_due call task ask (Ok (Say (Due answer))) fits = by_task task answer ask fits
+fit_due call task ask (Ok (Say (FileFault role))) fits =
+    record { task = task; ask = ask; reached = fits }
+fit_due call task ask (Ok (Serve rules k)) fits =
+    serves_of call task rules.kinds rules.automaton k ask fits
+fit_due call task ask (Err (Said (Due answer))) fits = by_task task answer ask fits
+fit_due call task ask (Err (Said (FileFault role))) fits =
+    record { task = task; ask = ask; reached = fits }
+fit_due call task ask (Err Memory) fits = tt

@@ -1,71 +1,38 @@
 -- From what the steps of a call came to to its plan.
-use Rattle.std.proofs.Common.{◌≡◌, ℕ, List, Result, Ok, Err, IfOk, ◌⊎◌, inl, inr, refl, sym, subst}
+use Rattle.std.proofs.Common.{◌≡◌, Result, Ok, Err, IfOk, refl, sym, subst}
 use Rattle.std.specs.declared.alloc.AllocError.{AllocError}
-use Rattle.tile_model.specs.Tessellations.{TileKind}
-use Rattle.tree_model.specs.Automata.{TreeAutomaton}
 use Rattle.walker_cli.specs.declared.answer.Role.{Role}
-use Rattle.walker_cli.specs.declared.answer.Answer.{Answer}
-use Rattle.walker_cli.specs.declared.answer.Answer.TheVariants.{LeadsTo, Accepted, Usage, FileFault, FileTooLong, TessLine, TessKinds, RulesSyntax, RulesShape, Broken}
+use Rattle.walker_cli.specs.declared.answer.Saying.TheVariants.{Due, FileFault}
 use Rattle.walker_cli.specs.declared.decide.Plan.{Plan}
-use Rattle.walker_cli.specs.declared.decide.Plan.TheVariants.{Say, Serve}
 use Rattle.walker_cli.specs.declared.load.Refusal.{Refusal}
-use Rattle.walker_cli.specs.declared.load.Refusal.TheVariants.{Answered, Failed, Memory}
-use Rattle.walker_cli.specs.Due.{Call, IsDue}
-use Rattle.walker_cli.specs.Loading.{IsDueOf, ComesTo, ComesToServe, Says, SaysSome, ServesOver, HasKind, IsFileFault, TellsFault, IsDueOrFailed, IsPlanDue, Settles}
+use Rattle.walker_cli.specs.declared.load.Refusal.TheVariants.{Said, Memory}
+use Rattle.walker_cli.specs.Loading.{IfPlan, SaysSome, HasKind, TellsFault, Settles}
+
+-- what holds of the plan that the steps came to holds of the plan of the call
+pub settled : (P : Plan → Type 0) (told : Result Plan Refusal) (r : Result Plan AllocError)
+    → Settles told r → IfPlan told P → IfOk r P
+settled P (Ok plan) r is holds = subst (λ (x : Result Plan AllocError). IfOk x P) (sym is) holds
+settled P (Err (Said saying)) r is holds =
+    subst (λ (x : Result Plan AllocError). IfOk x P) (sym is) holds
+settled P (Err Memory) (Ok plan) is holds = absurd (cc is)
+settled P (Err Memory) (Err e) is holds = tt
+
+pub some_said : (told : Result Plan Refusal) → IfOk told SaysSome → IfPlan told SaysSome
+some_said (Ok plan) said = said
+some_said (Err (Said saying)) said = tt
+some_said (Err Memory) said = tt
+
+pub has_kind : (told : Result Plan Refusal) → IfOk told HasKind → IfPlan told HasKind
+has_kind (Ok plan) has = has
+has_kind (Err (Said saying)) has = tt
+has_kind (Err Memory) has = tt
 
 -- a plan that tells of a file that could not be read comes from such a refusal
-pub settled_fault : (told : Result Plan Refusal) (r : Result Plan AllocError) (P : Type 0) → Settles told r → IfOk told (λ plan. TellsFault plan → ⊥) → ((answer : Answer) → told ≡ Err (Answered answer) → IsFileFault answer → ⊥) → ((role : Role) → told ≡ Err (Failed role) → P) → IfOk r (λ plan. TellsFault plan → P)
-settled_fault (Ok plan) r P is plain refused failed = subst (λ (x : Result Plan AllocError). IfOk x (λ p. TellsFault p → P)) (sym is) (λ fault. absurd (plain fault))
-settled_fault (Err (Answered answer)) r P is plain refused failed = subst (λ (x : Result Plan AllocError). IfOk x (λ p. TellsFault p → P)) (sym is) (λ fault. absurd (refused answer refl fault))
-settled_fault (Err (Failed role)) r P is plain refused failed = subst (λ (x : Result Plan AllocError). IfOk x (λ p. TellsFault p → P)) (sym is) (λ fault. failed role refl)
-settled_fault (Err Memory) (Ok plan) P is plain refused failed = absurd (cc is)
-settled_fault (Err Memory) (Err e) P is plain refused failed = tt
-
-due_or_failed : (call : Call) (answer : Answer) → IsDue call answer → IsDueOrFailed call answer
-due_or_failed call (LeadsTo d) due = due
-due_or_failed call (Accepted states corners) due = due
-due_or_failed call Usage due = due
-due_or_failed call (FileFault role) due = tt
-due_or_failed call (FileTooLong role) due = due
-due_or_failed call (TessLine n) due = due
-due_or_failed call (TessKinds fault) due = due
-due_or_failed call RulesSyntax due = due
-due_or_failed call (RulesShape part index) due = due
-due_or_failed call (Broken at) due = due
-
--- a plan that is due comes, unless a file could not be read
-pub settled_due : (call : Call) (told : Result Plan Refusal) (r : Result Plan AllocError) → Settles told r → IsDueOf call told → IfOk r (IsPlanDue call)
-settled_due call (Ok (Say answer)) r is due = subst (λ (x : Result Plan AllocError). IfOk x (IsPlanDue call)) (sym is) (due_or_failed call answer due)
-settled_due call (Ok (Serve rules k)) r is due = subst (λ (x : Result Plan AllocError). IfOk x (IsPlanDue call)) (sym is) due
-settled_due call (Err (Answered answer)) r is due = subst (λ (x : Result Plan AllocError). IfOk x (IsPlanDue call)) (sym is) (due_or_failed call answer due)
-settled_due call (Err (Failed role)) r is due = subst (λ (x : Result Plan AllocError). IfOk x (IsPlanDue call)) (sym is) tt
-settled_due call (Err Memory) (Ok plan) is due = absurd (cc is)
-settled_due call (Err Memory) (Err e) is due = tt
-
-pub settled_exact : (answer : Answer) (told : Result Plan Refusal) (r : Result Plan AllocError) → Settles told r → ComesTo answer told → IfOk r (λ plan. Says answer plan ⊎ TellsFault plan)
-settled_exact answer (Ok plan) r is comes = subst (λ (x : Result Plan AllocError). IfOk x (λ p. Says answer p ⊎ TellsFault p)) (sym is) (inl comes)
-settled_exact answer (Err (Answered other)) r is comes = subst (λ (x : Result Plan AllocError). IfOk x (λ p. Says answer p ⊎ TellsFault p)) (sym is) (inl comes)
-settled_exact answer (Err (Failed role)) r is comes = subst (λ (x : Result Plan AllocError). IfOk x (λ p. Says answer p ⊎ TellsFault p)) (sym is) (inr tt)
-settled_exact answer (Err Memory) (Ok plan) is comes = absurd (cc is)
-settled_exact answer (Err Memory) (Err e) is comes = tt
-
-pub settled_serves : (kinds : List TileKind) (a : TreeAutomaton) (k : ℕ) (told : Result Plan Refusal) (r : Result Plan AllocError) → Settles told r → ComesToServe kinds a k told → IfOk r (λ plan. ServesOver kinds a k plan ⊎ TellsFault plan)
-settled_serves kinds a k (Ok plan) r is comes = subst (λ (x : Result Plan AllocError). IfOk x (λ p. ServesOver kinds a k p ⊎ TellsFault p)) (sym is) (inl comes)
-settled_serves kinds a k (Err (Answered other)) r is comes = absurd comes
-settled_serves kinds a k (Err (Failed role)) r is comes = subst (λ (x : Result Plan AllocError). IfOk x (λ p. ServesOver kinds a k p ⊎ TellsFault p)) (sym is) (inr tt)
-settled_serves kinds a k (Err Memory) (Ok plan) is comes = absurd (cc is)
-settled_serves kinds a k (Err Memory) (Err e) is comes = tt
-
-pub settled_said : (told : Result Plan Refusal) (r : Result Plan AllocError) → Settles told r → IfOk told SaysSome → IfOk r SaysSome
-settled_said (Ok plan) r is said = subst (λ (x : Result Plan AllocError). IfOk x SaysSome) (sym is) said
-settled_said (Err (Answered answer)) r is said = subst (λ (x : Result Plan AllocError). IfOk x SaysSome) (sym is) tt
-settled_said (Err (Failed role)) r is said = subst (λ (x : Result Plan AllocError). IfOk x SaysSome) (sym is) tt
-settled_said (Err Memory) (Ok plan) is said = absurd (cc is)
-settled_said (Err Memory) (Err e) is said = tt
-
-pub settled_kind : (told : Result Plan Refusal) (r : Result Plan AllocError) → Settles told r → IfOk told HasKind → IfOk r HasKind
-settled_kind (Ok plan) r is has = subst (λ (x : Result Plan AllocError). IfOk x HasKind) (sym is) has
-settled_kind (Err (Answered answer)) r is has = subst (λ (x : Result Plan AllocError). IfOk x HasKind) (sym is) tt
-settled_kind (Err (Failed role)) r is has = subst (λ (x : Result Plan AllocError). IfOk x HasKind) (sym is) tt
-settled_kind (Err Memory) (Ok plan) is has = absurd (cc is)
-settled_kind (Err Memory) (Err e) is has = tt
+pub fault_known : (told : Result Plan Refusal) (Q : Type 0)
+    → IfOk told (λ plan. TellsFault plan → ⊥)
+    → ((role : Role) → told ≡ Err (Said (FileFault role)) → Q)
+    → IfPlan told (λ plan. TellsFault plan → Q)
+fault_known (Ok plan) Q plain failed = λ fault. absurd (plain fault)
+fault_known (Err (Said (Due answer))) Q plain failed = λ fault. absurd fault
+fault_known (Err (Said (FileFault role))) Q plain failed = λ fault. failed role refl
+fault_known (Err Memory) Q plain failed = tt

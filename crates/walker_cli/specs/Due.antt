@@ -1,7 +1,9 @@
--- The table of answers: which answer is due to the words and to what the files hold, no fault of the outside and no want of memory coming
--- between, and over which rules walkers are served instead.
-use Rattle.std.specs.Prelude.{ℕ, ◌<◌, List, String, length, map, Option}
-use Rattle.std.specs.String.{string_bytes}
+-- The table of answers: which answer is due to the words and to what the files hold, and over which
+-- rules walkers are served instead.
+-- No fault of the outside and no want of memory comes between.
+-- Of a fault of the outside it is said which files may be fetched.
+-- Each form of the words has rows of its own.
+use Rattle.std.specs.Prelude.{ℕ, ◌<◌, ◌≤◌, List, length, Option}
 use Rattle.tile_model.specs.declared.Letter.{Letter}
 use Rattle.tile_model.specs.Tessellations.{TileKind}
 use Rattle.tile_model.specs.Walks.{type_of}
@@ -10,39 +12,105 @@ use Rattle.tree_model.specs.Automata.{TreeAutomaton}
 use Rattle.tree_model.specs.Conditions.{IsAccepted}
 use Rattle.tess_text.specs.Spelling.{IsSpelling}
 use Rattle.rules_file.specs.Spelling.{IsRulesFile}
+use Rattle.walker_cli.specs.declared.answer.Role.{Role}
+use Rattle.walker_cli.specs.declared.answer.Role.TheVariants.{Tess, Rules}
+use Rattle.walker_cli.specs.declared.answer.Saying.{Saying}
+use Rattle.walker_cli.specs.declared.answer.Saying.TheVariants.{Due as DueAnswer, FileFault}
 use Rattle.walker_cli.specs.declared.answer.Answer.{Answer}
-use Rattle.walker_cli.specs.declared.answer.Answer.TheVariants.{LeadsTo, Accepted, Usage}
-use Rattle.walker_cli.specs.Tasks.{Task, TellType, CheckRules, RunSession, Ask, IsRunForm, HaveNoForm, tess_of, LacksKind}
+use Rattle.walker_cli.specs.declared.answer.Answer.TheVariants.{TypeTold, Accepted, Usage}
+use Rattle.walker_cli.specs.Tasks.{Task, TellType, CheckRules, RunSession, Ask, IsRunForm}
+use Rattle.walker_cli.specs.Tasks.{HaveNoForm}
+use Rattle.walker_cli.specs.Runs.{Call}
 use Rattle.walker_cli.specs.Held.{Loaded, Refused, Holds, IsTess, IsRules, tess_limit, rules_limit}
 
--- a call of the program: its words, and what each file holds before it
-pub record Call : Type 0 where
-  pub words : List (List ℕ)
-  pub contents : List ℕ → Option (List ℕ)
+-- what each file holds, by its name
+abbrev pub Contents : Type 0
+Contents = List ℕ → Option (List ℕ)
 
--- the call with these words, where the files hold this
-abbrev pub call_of : {Z : Type 0} → List (String Z) → (List ℕ → Option (List ℕ)) → Call
-call_of words contents = record { words = map string_bytes words; contents = contents }
+-- the rows of the form `kind`
+pub data TypeRow (contents : Contents) (tess : List ℕ) (k : ℕ) (walk : List Letter) :
+    Answer → Type 0 where
+  -- the tessellation file is refused
+  type_no_tess :
+      (answer : Answer)
+      → IsTess contents tess (Refused answer)
+      → TypeRow contents tess k walk answer
+  -- the words name no kind of the tessellation
+  type_no_kind :
+      (kinds : List TileKind)
+      → IsTess contents tess (Loaded kinds)
+      → length kinds ≤ k
+      → TypeRow contents tess k walk Usage
+  -- the type that the walk leads to
+  type_told :
+      (kinds : List TileKind)
+      → IsTess contents tess (Loaded kinds)
+      → k < length kinds
+      → TypeRow contents tess k walk (TypeTold (type_of kinds (k, 0) walk))
+
+-- the rows of the form `check`
+pub data CheckRow (contents : Contents) (tess rules : List ℕ) : Answer → Type 0 where
+  -- the tessellation file is refused
+  check_no_tess :
+      (answer : Answer)
+      → IsTess contents tess (Refused answer)
+      → CheckRow contents tess rules answer
+  -- the rules file is refused
+  check_no_rules :
+      (kinds : List TileKind) (answer : Answer)
+      → IsTess contents tess (Loaded kinds)
+      → IsRules contents kinds rules (Refused answer)
+      → CheckRow contents tess rules answer
+  -- the rules are accepted
+  check_accepted :
+      (kinds : List TileKind) (a : TreeAutomaton)
+      → IsTess contents tess (Loaded kinds)
+      → IsRules contents kinds rules (Loaded a)
+      → CheckRow contents tess rules (Accepted (length a.states) (length a.corners))
+
+-- the rows of the form `run`, where no walkers are served
+pub data SessionRow (contents : Contents) (tess : List ℕ) (k : ℕ) (rules : List ℕ) :
+    Answer → Type 0 where
+  -- the tessellation file is refused
+  session_no_tess :
+      (answer : Answer)
+      → IsTess contents tess (Refused answer)
+      → SessionRow contents tess k rules answer
+  -- the words name no kind of the tessellation
+  session_no_kind :
+      (kinds : List TileKind)
+      → IsTess contents tess (Loaded kinds)
+      → length kinds ≤ k
+      → SessionRow contents tess k rules Usage
+  -- the rules file is refused
+  session_no_rules :
+      (kinds : List TileKind) (answer : Answer)
+      → IsTess contents tess (Loaded kinds)
+      → k < length kinds
+      → IsRules contents kinds rules (Refused answer)
+      → SessionRow contents tess k rules answer
+
+-- the rows of a task
+abbrev pub Row : Contents → Task → Answer → Type 0
+Row contents (TellType tess k walk) = TypeRow contents tess k walk
+Row contents (CheckRules tess rules) = CheckRow contents tess rules
+Row contents (RunSession tess k rules) = SessionRow contents tess k rules
 
 pub data IsDue (call : Call) : Answer → Type 0 where
   -- the words are in no form
   no_form : HaveNoForm call.words → IsDue call Usage
-  -- the tessellation file is refused
-  no_tess : (task : Task) (answer : Answer) → Ask call.words task → IsTess call.contents (tess_of task) (Refused answer) → IsDue call answer
-  -- the words name no kind of the tessellation
-  no_kind : (task : Task) (kinds : List TileKind) → Ask call.words task → IsTess call.contents (tess_of task) (Loaded kinds) → LacksKind task (length kinds) → IsDue call Usage
-  -- the type that the walk leads to
-  type_told : (tess : List ℕ) (k : ℕ) (walk : List Letter) (kinds : List TileKind) → Ask call.words (TellType tess k walk) → IsTess call.contents tess (Loaded kinds) → k < length kinds → IsDue call (LeadsTo (type_of kinds (k, 0) walk))
-  -- the rules file is refused
-  no_rules : (tess rules : List ℕ) (kinds : List TileKind) (answer : Answer) → Ask call.words (CheckRules tess rules) → IsTess call.contents tess (Loaded kinds) → IsRules call.contents kinds rules (Refused answer) → IsDue call answer
-  -- the rules are accepted
-  rules_accepted : (tess rules : List ℕ) (kinds : List TileKind) (a : TreeAutomaton) → Ask call.words (CheckRules tess rules) → IsTess call.contents tess (Loaded kinds) → IsRules call.contents kinds rules (Loaded a) → IsDue call (Accepted (length a.states) (length a.corners))
-  -- the rules file of a session is refused
-  no_session : (tess : List ℕ) (k : ℕ) (rules : List ℕ) (kinds : List TileKind) (answer : Answer) → Ask call.words (RunSession tess k rules) → IsTess call.contents tess (Loaded kinds) → k < length kinds → IsRules call.contents kinds rules (Refused answer) → IsDue call answer
+  -- the words ask for a task
+  by_task :
+      (task : Task) (answer : Answer)
+      → Ask call.words task
+      → Row call.contents task answer
+      → IsDue call answer
 
--- The words are `run TESS K --rules RULES`, both files hold what they should within their limits, the automaton meets the twelve conditions, and
--- K is a kind of the tessellation. Then the commands of the input are answered.
-pub record Serves (call : Call) (kinds : List TileKind) (automaton : TreeAutomaton) (k : ℕ) : Type 0 where
+-- The words are `run TESS K --rules RULES`, both files hold what they should within their limits,
+-- the automaton meets the twelve conditions, and K is a kind of the tessellation.
+-- Then the commands of the input are answered.
+pub record Serves (call : Call) (kinds : List TileKind) (automaton : TreeAutomaton) (k : ℕ) :
+    Type 0 where
   pub tess : List ℕ
   pub rules : List ℕ
   pub tess_bytes : List ℕ
@@ -55,3 +123,35 @@ pub record Serves (call : Call) (kinds : List TileKind) (automaton : TreeAutomat
   pub rules_spelling : IsRulesFile rules_bytes automaton
   pub accepted : IsAccepted kinds automaton
   pub is_kind : k < length kinds
+
+-- the call serves walkers, over some rules and a kind
+pub record ServesSome (call : Call) : Type 0 where
+  pub kinds : List TileKind
+  pub automaton : TreeAutomaton
+  pub kind : ℕ
+  pub serves : Serves call kinds automaton kind
+
+-- Where a task fetches the file of this role: where nothing that is tried before it refuses.
+abbrev pub FetchesFor : Contents → Task → Role → Type 0
+FetchesFor contents task Tess = Unit {0}
+FetchesFor contents (TellType tess k walk) Rules = ⊥
+FetchesFor contents (CheckRules tess rules) Rules =
+    (kinds : List TileKind) × IsTess contents tess (Loaded kinds)
+FetchesFor contents (RunSession tess k rules) Rules =
+    (kinds : List TileKind) × IsTess contents tess (Loaded kinds) × (k < length kinds)
+
+-- the call asks for a task that fetches the file of this role
+pub record Fetches (call : Call) (role : Role) : Type 0 where
+  pub task : Task
+  pub ask : Ask call.words task
+  pub reached : FetchesFor call.contents task role
+
+-- what a call may say: the answer that is due, or that a file which it fetches could not be read
+abbrev pub MaySay : Call → Saying → Type 0
+MaySay call (DueAnswer answer) = IsDue call answer
+MaySay call (FileFault role) = Fetches call role
+
+-- it is said that a file could not be read
+abbrev pub IsFileFault : Saying → Type 0
+IsFileFault (DueAnswer answer) = ⊥
+IsFileFault (FileFault role) = Unit {0}

@@ -1,52 +1,105 @@
--- How a call ends, whatever its files, its source and its sink tell.
-use Rattle.std.specs.Prelude.{◌≡◌, ◌⊎◌, ℕ, ◌<◌, ◌≤◌, Bool, IsTrue, List, [], ◌++◌, length}
+-- How a run ends, whatever its files, its source and its sink tell.
+use Rattle.std.specs.Prelude.{◌≡◌, ℕ, ◌<◌, ◌≤◌, Bool, IsTrue, List, [], ◌++◌, length}
 use Rattle.tile_model.specs.Tessellations.{TileKind}
 use Rattle.tree_model.specs.Automata.{TreeAutomaton}
-use Rattle.reply_model.specs.declared.Command.{Command}
-use Rattle.reply_model.specs.declared.Reply.{Reply}
-use Rattle.reply_model.specs.WalkReadings.{IsWalkReply}
+use Rattle.line_server.specs.Answering.{over_walks}
+use Rattle.way_io.specs.Counts.{Rose}
 use Rattle.way_io.specs.Pieces.{AppendsPrefix}
 use Rattle.line_server.specs.Lines.{most_of_stream}
-use Rattle.line_server.specs.Outputs.{History}
+use Rattle.line_server.specs.Answering.{Answering}
 use Rattle.line_server.specs.Endings.{IsBegun}
 use Rattle.walker_cli.specs.declared.status.Status.{Status}
-use Rattle.walker_cli.specs.declared.status.Status.TheVariants.{Done, ReadFault, WriteFault, InputTooLong, Memory}
+use Rattle.walker_cli.specs.declared.status.Status.TheVariants.{Done, ReadFault, WriteFault}
+use Rattle.walker_cli.specs.declared.status.Status.TheVariants.{InputTooLong, Memory}
 use Rattle.walker_cli.specs.declared.answer.Answer.{Answer}
 use Rattle.walker_cli.specs.declared.answer.Answer.TheVariants.{Usage}
+use Rattle.walker_cli.specs.declared.answer.Saying.{Saying}
+use Rattle.walker_cli.specs.declared.answer.Saying.TheVariants.{Due}
 use Rattle.walker_cli.specs.Tasks.{HaveNoForm, AreNotOfRun}
-use Rattle.walker_cli.specs.Due.{Call, IsDue, Serves}
-use Rattle.walker_cli.specs.Lines.{status_of, line_of}
-use Rattle.walker_cli.specs.Loading.{IsFileFault, IsDueOrFailed}
+use Rattle.walker_cli.specs.Runs.{Call, Run, call_of}
+use Rattle.walker_cli.specs.Due.{IsDue, Serves, MaySay, IsFileFault}
+use Rattle.walker_cli.specs.StatusLines.{saying_status, saying_line}
+use Rattle.walker_cli.specs.Loading.{IsSaidAs}
 use Rattle.walker_cli.specs.Serving.{OutputStands, LinesStand, RefusalStands, BeginningStands}
 
--- The line of the answer was appended, or a beginning of it, or nothing for want of memory.
-pub data SaysLine (takes : Bool) (answer : Answer) (taken taken' : List ℕ) (status : Status) : Type 0 where
-  said : status ≡ status_of answer → (IsTrue takes → taken' ≡ taken ++ line_of answer) → SaysLine takes answer taken taken' status
-  unsaid : status ≡ Memory → (IsTrue takes → taken' ≡ taken) → SaysLine takes answer taken taken' status
-  unwritten : status ≡ WriteFault → (IsTrue takes → AppendsPrefix taken taken' (line_of answer)) → SaysLine takes answer taken taken' status
+-- The line of what is said was appended, or a beginning of it, or nothing for want of memory.
+pub data SaysLine (takes : Bool) (saying : Saying) (taken taken' : List ℕ) (status : Status) :
+    Type 0 where
+  said :
+      status ≡ saying_status saying
+      → (IsTrue takes → taken' ≡ taken ++ saying_line saying)
+      → SaysLine takes saying taken taken' status
+  unsaid :
+      status ≡ Memory
+      → (IsTrue takes → taken' ≡ taken)
+      → SaysLine takes saying taken taken' status
+  unwritten :
+      status ≡ WriteFault
+      → (IsTrue takes → AppendsPrefix taken taken' (saying_line saying))
+      → SaysLine takes saying taken taken' status
 
 -- The commands of a stream were answered, up to where its status says.
-pub data EndsStream (gives takes : Bool) (Due : History → Command → Reply → Type 0) (left left' taken taken' : List ℕ) (status : Status) : Type 0 where
-  answered : status ≡ Done → (IsTrue gives → length left ≤ most_of_stream) → (IsTrue gives → IsTrue takes → OutputStands Due left left' taken taken') → EndsStream gives takes Due left left' taken taken' status
-  cut_off : status ≡ ReadFault → (IsTrue gives → IsTrue takes → LinesStand Due left left' taken taken') → EndsStream gives takes Due left left' taken taken' status
-  over_limit : status ≡ InputTooLong → (IsTrue gives → most_of_stream < length left) → (IsTrue gives → IsTrue takes → RefusalStands Due left taken taken') → EndsStream gives takes Due left left' taken taken' status
-  broken_off : status ≡ WriteFault → (IsTrue gives → IsTrue takes → BeginningStands Due left taken taken') → EndsStream gives takes Due left left' taken taken' status
-  out_of_memory : status ≡ Memory → (IsTrue gives → IsTrue takes → IsBegun Due [] left taken taken') → EndsStream gives takes Due left left' taken taken' status
+pub data EndsStream
+    (gives takes : Bool) (answering : Answering)
+    (left left' taken taken' : List ℕ) (status : Status) : Type 0 where
+  answered :
+      status ≡ Done
+      → (IsTrue gives → length left ≤ most_of_stream)
+      → (IsTrue gives → IsTrue takes → OutputStands answering left left' taken taken')
+      → EndsStream gives takes answering left left' taken taken' status
+  cut_off :
+      status ≡ ReadFault
+      → (IsTrue gives → IsTrue takes → LinesStand answering left left' taken taken')
+      → EndsStream gives takes answering left left' taken taken' status
+  over_limit :
+      status ≡ InputTooLong
+      → (IsTrue gives → most_of_stream < length left)
+      → (IsTrue gives → IsTrue takes → RefusalStands answering left taken taken')
+      → EndsStream gives takes answering left left' taken taken' status
+  broken_off :
+      status ≡ WriteFault
+      → (IsTrue gives → IsTrue takes → BeginningStands answering left taken taken')
+      → EndsStream gives takes answering left left' taken taken' status
+  out_of_memory :
+      status ≡ Memory
+      → (IsTrue gives → IsTrue takes → IsBegun answering [] left taken taken')
+      → EndsStream gives takes answering left left' taken taken' status
 
--- the answer is due, or a file could not be read; and no other is, and no walkers are served, unless a file could not be read
-pub record IsAnswerOf (call : Call) (answer : Answer) : Type 0 where
-  pub due : IsDueOrFailed call answer
-  pub exact : (other : Answer) → IsDue call other → (answer ≡ other) ⊎ IsFileFault answer
-  pub alone : (kinds : List TileKind) (a : TreeAutomaton) (k : ℕ) → Serves call kinds a k → IsFileFault answer
+-- It may be said.
+-- No other answer is due, and no walkers are served, unless it is that a file could not be read.
+pub record IsSayingOf (call : Call) (saying : Saying) : Type 0 where
+  pub may : MaySay call saying
+  pub exact : (answer : Answer) → IsDue call answer → IsSaidAs answer saying
+  pub alone :
+      (kinds : List TileKind) (a : TreeAutomaton) (k : ℕ)
+      → Serves call kinds a k → IsFileFault saying
 
--- the call serves walkers over these rules and this kind and no others, and no answer is due
-pub record IsSessionOf (call : Call) (kinds : List TileKind) (a : TreeAutomaton) (k : ℕ) : Type 0 where
+-- The call serves walkers over these rules and this kind and no others, and no answer is due.
+pub record IsSessionOf (call : Call) (kinds : List TileKind) (a : TreeAutomaton) (k : ℕ) :
+    Type 0 where
   pub serves : Serves call kinds a k
-  pub exact : (kinds' : List TileKind) (a' : TreeAutomaton) (k' : ℕ) → Serves call kinds' a' k' → (kinds ≡ kinds') × (a ≡ a') × (k ≡ k')
+  pub exact :
+      (kinds' : List TileKind) (a' : TreeAutomaton) (k' : ℕ)
+      → Serves call kinds' a' k' → (kinds ≡ kinds') × (a ≡ a') × (k ≡ k')
   pub alone : (answer : Answer) → IsDue call answer → ⊥
 
--- A call ends for want of memory, with an answer, or with the commands of the input.
-pub data EndsCall (tells gives takes : Bool) (call : Call) (left left' taken taken' : List ℕ) (status : Status) : Type 0 where
-  no_plan : status ≡ Memory → (IsTrue takes → taken' ≡ taken) → EndsCall tells gives takes call left left' taken taken' status
-  with_answer : (answer : Answer) → (IsTrue tells → IsAnswerOf call answer) → (HaveNoForm call.words → answer ≡ Usage) → SaysLine takes answer taken taken' status → EndsCall tells gives takes call left left' taken taken' status
-  with_stream : (kinds : List TileKind) (a : TreeAutomaton) (k : ℕ) → (IsTrue tells → IsSessionOf call kinds a k) → ¬ AreNotOfRun call.words → EndsStream gives takes (IsWalkReply kinds a k) left left' taken taken' status → EndsCall tells gives takes call left left' taken taken' status
+-- A run ends for want of memory, with a line, or with the commands of the input.
+pub data EndsRun (run : Run) : Type 0 where
+  no_plan :
+      run.status ≡ Memory
+      → (IsTrue run.sink_tells → run.after.taken ≡ run.before.taken)
+      → EndsRun run
+  with_line :
+      (saying : Saying)
+      → (IsTrue run.files_tell → IsSayingOf (call_of run) saying)
+      → (IsFileFault saying → Rose run.before.failed_fetches run.after.failed_fetches)
+      → (HaveNoForm run.words → saying ≡ Due Usage)
+      → SaysLine run.sink_tells saying run.before.taken run.after.taken run.status
+      → EndsRun run
+  with_stream :
+      (kinds : List TileKind) (a : TreeAutomaton) (k : ℕ)
+      → (IsTrue run.files_tell → IsSessionOf (call_of run) kinds a k)
+      → ¬ AreNotOfRun run.words
+      → EndsStream run.source_tells run.sink_tells (over_walks kinds a k)
+      run.before.left run.after.left run.before.taken run.after.taken run.status
+      → EndsRun run

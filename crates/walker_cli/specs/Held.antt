@@ -1,8 +1,9 @@
--- What the files hold, where they tell it: a tessellation or rules, or the answer that refuses them.
+-- What the files hold, where they tell it: a tessellation or rules, or the answer that refuses
+-- them.
 use Rattle.std.specs.Prelude.{◌≡◌, ℕ, ◌<◌, ◌≤◌, List, length, Option, Some}
 use Rattle.tile_model.specs.Tessellations.{TileKind}
 use Rattle.tile_model.specs.Validity.{IsValid}
-use Rattle.tile_kinds.specs.declared.fault.KindFault.{KindFault}
+use Rattle.tile_model.specs.declared.fault.KindFault.{KindFault}
 use Rattle.tree_model.specs.Automata.{TreeAutomaton}
 use Rattle.tree_model.specs.Conditions.{IsAccepted}
 use Rattle.tess_text.specs.Grammar.{IsFirstBadLine}
@@ -14,7 +15,8 @@ use Rattle.rules_file.specs.Faults.{IsFirstFault}
 use Rattle.structure_check.specs.Broken.{IsFirstBroken}
 use Rattle.walker_cli.specs.declared.answer.Role.TheVariants.{Tess, Rules}
 use Rattle.walker_cli.specs.declared.answer.Answer.{Answer}
-use Rattle.walker_cli.specs.declared.answer.Answer.TheVariants.{FileTooLong, TessLine, TessKinds, RulesSyntax, RulesShape, Broken}
+use Rattle.walker_cli.specs.declared.answer.Answer.TheVariants.{FileTooLong, TessLine, TessKinds}
+use Rattle.walker_cli.specs.declared.answer.Answer.TheVariants.{RulesSyntax, RulesShape, Broken}
 
 -- the greatest number of bytes of a tessellation file and of a rules file
 abbrev pub tess_limit : ℕ
@@ -24,12 +26,15 @@ abbrev pub rules_limit : ℕ
 rules_limit = 33554432
 
 -- the file holds these bytes, and they are within its limit
-pub record Holds (contents : List ℕ → Option (List ℕ)) (file : List ℕ) (limit : ℕ) (bytes : List ℕ) : Type 0 where
+pub record Holds
+    (contents : List ℕ → Option (List ℕ)) (file : List ℕ) (limit : ℕ) (bytes : List ℕ) :
+    Type 0 where
   pub content : contents file ≡ Some bytes
   pub within : length bytes ≤ limit
 
 -- the file holds more bytes than its limit
-pub record HoldsTooMany (contents : List ℕ → Option (List ℕ)) (file : List ℕ) (limit : ℕ) : Type 0 where
+pub record HoldsTooMany
+    (contents : List ℕ → Option (List ℕ)) (file : List ℕ) (limit : ℕ) : Type 0 where
   pub bytes : List ℕ
   pub content : contents file ≡ Some bytes
   pub longer : limit < length bytes
@@ -40,25 +45,67 @@ pub data Outcome (A : Type 0) : Type 0 where
   Refused : Answer → Outcome A
 
 -- what a tessellation file comes to
-pub data IsTess (contents : List ℕ → Option (List ℕ)) (file : List ℕ) : Outcome (List TileKind) → Type 0 where
+pub data IsTess (contents : List ℕ → Option (List ℕ)) (file : List ℕ) :
+    Outcome (List TileKind) → Type 0 where
   -- it is too long
-  tess_too_long : HoldsTooMany contents file tess_limit → IsTess contents file (Refused (FileTooLong Tess))
+  tess_too_long :
+      HoldsTooMany contents file tess_limit
+      → IsTess contents file (Refused (FileTooLong Tess))
   -- line n is its first bad line
-  tess_line : (bytes : List ℕ) (n : ℕ) → Holds contents file tess_limit bytes → IsFirstBadLine bytes n → IsTess contents file (Refused (TessLine n))
+  tess_line :
+      (bytes : List ℕ) (n : ℕ)
+      → Holds contents file tess_limit bytes
+      → IsFirstBadLine bytes n
+      → IsTess contents file (Refused (TessLine n))
   -- no line is bad, and its kinds have this fault
-  tess_kinds : (bytes : List ℕ) (fault : KindFault) → Holds contents file tess_limit bytes → IsRefused bytes fault → IsTess contents file (Refused (TessKinds fault))
+  tess_kinds :
+      (bytes : List ℕ) (fault : KindFault)
+      → Holds contents file tess_limit bytes
+      → IsRefused bytes fault
+      → IsTess contents file (Refused (TessKinds fault))
   -- it is a spelling of a tessellation
-  tess_loaded : (bytes : List ℕ) (kinds : List TileKind) → Holds contents file tess_limit bytes → IsSpelling bytes kinds → IsValid kinds → IsTess contents file (Loaded kinds)
+  tess_loaded :
+      (bytes : List ℕ) (kinds : List TileKind)
+      → Holds contents file tess_limit bytes
+      → IsSpelling bytes kinds
+      → IsValid kinds
+      → IsTess contents file (Loaded kinds)
+
+-- the answer that tells of the first condition that is broken, and where
+abbrev pub broken_at : (c first second : ℕ) → Answer
+broken_at c first second = Broken (record { condition = c; first = first; second = second })
 
 -- what a rules file comes to, over the kinds of a tessellation
-pub data IsRules (contents : List ℕ → Option (List ℕ)) (kinds : List TileKind) (file : List ℕ) : Outcome TreeAutomaton → Type 0 where
+pub data IsRules (contents : List ℕ → Option (List ℕ)) (kinds : List TileKind) (file : List ℕ) :
+    Outcome TreeAutomaton → Type 0 where
   -- it is too long
-  rules_too_long : HoldsTooMany contents file rules_limit → IsRules contents kinds file (Refused (FileTooLong Rules))
+  rules_too_long :
+      HoldsTooMany contents file rules_limit
+      → IsRules contents kinds file (Refused (FileTooLong Rules))
   -- it is no JSON text
-  rules_syntax : (bytes : List ℕ) → Holds contents file rules_limit bytes → ((d : Data) → ¬ IsTextOf bytes d) → IsRules contents kinds file (Refused RulesSyntax)
+  rules_syntax :
+      (bytes : List ℕ)
+      → Holds contents file rules_limit bytes
+      → ((d : Data) → ¬ IsTextOf bytes d)
+      → IsRules contents kinds file (Refused RulesSyntax)
   -- the value of the text first fails at this part
-  rules_shape : (bytes : List ℕ) (d : Data) (part : Part) (index : ℕ) → Holds contents file rules_limit bytes → IsTextOf bytes d → IsFirstFault d part index → IsRules contents kinds file (Refused (RulesShape part index))
+  rules_shape :
+      (bytes : List ℕ) (d : Data) (part : Part) (index : ℕ)
+      → Holds contents file rules_limit bytes
+      → IsTextOf bytes d
+      → IsFirstFault d part index
+      → IsRules contents kinds file (Refused (RulesShape part index))
   -- the automaton breaks a condition, first at this place
-  rules_broken : (bytes : List ℕ) (a : TreeAutomaton) (c first second : ℕ) → Holds contents file rules_limit bytes → IsRulesFile bytes a → IsFirstBroken kinds a c first second → IsRules contents kinds file (Refused (Broken (record { condition = c; first = first; second = second })))
+  rules_broken :
+      (bytes : List ℕ) (a : TreeAutomaton) (c first second : ℕ)
+      → Holds contents file rules_limit bytes
+      → IsRulesFile bytes a
+      → IsFirstBroken kinds a c first second
+      → IsRules contents kinds file (Refused (broken_at c first second))
   -- it is a spelling of an automaton that meets all conditions
-  rules_loaded : (bytes : List ℕ) (a : TreeAutomaton) → Holds contents file rules_limit bytes → IsRulesFile bytes a → IsAccepted kinds a → IsRules contents kinds file (Loaded a)
+  rules_loaded :
+      (bytes : List ℕ) (a : TreeAutomaton)
+      → Holds contents file rules_limit bytes
+      → IsRulesFile bytes a
+      → IsAccepted kinds a
+      → IsRules contents kinds file (Loaded a)

@@ -1,9 +1,11 @@
 pub mod Tasks
 pub mod Forms
-pub mod Lines
+pub mod Runs
+pub mod StatusLines
 pub mod Held
 pub mod Due
 pub mod Loading
 pub mod Outcome
 pub mod Serving
+pub mod Promise
 pub mod Ending

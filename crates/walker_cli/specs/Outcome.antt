@@ -1,9 +1,11 @@
 -- How the status and what was appended answer to the table.
-use Rattle.std.specs.Prelude.{◌≡◌, ◌⊎◌, ℕ, ◌<◌, Bool, IsTrue, List, [], ◌∷◌, ◌++◌, length, codes, decimal}
+use Rattle.std.specs.Prelude.{◌≡◌, ◌⊎◌, ℕ, ◌<◌, IsTrue, List, [], ◌∷◌, ◌++◌, length, codes, decimal}
+use Rattle.way_io.specs.Pieces.{AppendsPrefix}
 use Rattle.walker_cli.specs.declared.status.Status.{Status}
-use Rattle.walker_cli.specs.declared.status.Status.TheVariants.{FileFault, Memory, WriteFault}
+use Rattle.walker_cli.specs.declared.status.Status.TheVariants.{Memory, WriteFault}
 use Rattle.walker_cli.specs.declared.answer.Answer.{Answer}
-use Rattle.walker_cli.specs.Lines.{status_of, line_of}
+use Rattle.walker_cli.specs.StatusLines.{Class, OfLine, OfOutside, OfStream, OfMemory, class_of}
+use Rattle.walker_cli.specs.StatusLines.{status_of, line_of}
 use Rattle.tile_model.specs.declared.Letter.{Letter}
 use Rattle.tile_model.specs.Tessellations.{TileKind}
 use Rattle.tile_model.specs.Validity.{IsValid}
@@ -13,31 +15,60 @@ use Rattle.tree_model.specs.Conditions.{IsAccepted}
 use Rattle.tess_text.specs.Spelling.{IsSpelling}
 use Rattle.rules_file.specs.Spelling.{IsRulesFile}
 use Rattle.walker_cli.specs.Tasks.{IsKindForm}
+use Rattle.walker_cli.specs.Runs.{Call, Run, call_of}
 use Rattle.walker_cli.specs.Held.{Holds, tess_limit, rules_limit}
-use Rattle.walker_cli.specs.Due.{Call, IsDue}
+use Rattle.walker_cli.specs.Due.{IsDue}
 
--- a sink that tells its bytes took exactly this line
-abbrev pub Appends : Bool → List ℕ → List ℕ → List ℕ → Type 0
-Appends tells before after line = IsTrue tells → after ≡ before ++ line
+-- what a run wrote, where its sink tells: exactly this, a beginning of it, or nothing
+abbrev pub Writes : Run → List ℕ → Type 0
+Writes run line = IsTrue run.sink_tells → run.after.taken ≡ run.before.taken ++ line
 
--- the statuses that tell of the outside or of memory
-pub data IsOutside : Status → Type 0 where
-  file_failed : IsOutside FileFault
-  no_memory : IsOutside Memory
-  write_failed : IsOutside WriteFault
+abbrev pub WritesBeginning : Run → List ℕ → Type 0
+WritesBeginning run line =
+    IsTrue run.sink_tells → AppendsPrefix run.before.taken run.after.taken line
 
--- The status comes only where an answer with this status is due, and then exactly its line was appended; and where such an answer is due it
--- comes, unless the outside or memory fails.
-pub record ComesExactly (call : Call) (result : Status) (appended : List ℕ → Type 0) (status : Status) : Type 0 where
-  pub only : result ≡ status → (answer : Answer) × IsDue call answer × (status_of answer ≡ status) × appended (line_of answer)
-  pub always : (answer : Answer) → IsDue call answer → status_of answer ≡ status → ((result ≡ status) × appended (line_of answer)) ⊎ IsOutside result
+abbrev pub WritesNothing : Run → Type 0
+WritesNothing run = IsTrue run.sink_tells → run.after.taken ≡ run.before.taken
+
+-- the classes that come between a call and its answer
+abbrev pub ComesBetween : Class → Type 0
+ComesBetween OfLine = ⊥
+ComesBetween OfOutside = Unit {0}
+ComesBetween OfStream = ⊥
+ComesBetween OfMemory = Unit {0}
+
+-- the statuses that tell of the outside or of memory: FileFault, WriteFault and Memory
+abbrev pub IsOutside : Status → Type 0
+IsOutside status = ComesBetween (class_of status)
 
 -- the status with this line, unless the outside or memory fails
-abbrev pub Gives : Status → Status → (List ℕ → Type 0) → List ℕ → Type 0
-Gives result status appended line = ((result ≡ status) × appended line) ⊎ IsOutside result
+abbrev pub Gives : Run → Status → List ℕ → Type 0
+Gives run status line = ((run.status ≡ status) × Writes run line) ⊎ IsOutside run.status
 
--- The words are `kind TESS K LETTERS`, the file holds a spelling of a tessellation within its limit, and K is a kind of it. The line tells the
--- type that the walk leads to from side 0 of kind K.
+-- The status with this line, unless it could not be written or there was no memory for it.
+-- No file was fetched before it.
+abbrev pub GivesAtOnce : Run → Status → List ℕ → Type 0
+GivesAtOnce run status line =
+    ((run.status ≡ status) × Writes run line)
+    ⊎ ((run.status ≡ Memory) ⊎ (run.status ≡ WriteFault))
+
+-- The status comes only where an answer with this status is due, and then exactly its line was
+-- written.
+-- Where such an answer is due it comes, unless the outside or memory fails.
+pub record ComesExactly (run : Run) (status : Status) : Type 0 where
+  pub only :
+      run.status ≡ status
+      → (answer : Answer) × IsDue (call_of run) answer × (status_of answer ≡ status)
+      × Writes run (line_of answer)
+  pub always :
+      (answer : Answer)
+      → IsDue (call_of run) answer
+      → status_of answer ≡ status
+      → Gives run status (line_of answer)
+
+-- The words are `kind TESS K LETTERS`, the file holds a spelling of a tessellation within its
+-- limit, and K is a kind of it.
+-- The line tells the type that the walk leads to from side 0 of kind K.
 pub record TellsType (call : Call) (line : List ℕ) : Type 0 where
   pub tess : List ℕ
   pub k : ℕ
@@ -49,10 +80,13 @@ pub record TellsType (call : Call) (line : List ℕ) : Type 0 where
   pub spelling : IsSpelling bytes kinds
   pub valid : IsValid kinds
   pub is_kind : k < length kinds
-  pub written : line ≡ codes "type " ++ decimal (type_of kinds (k, 0) walk).0 ++ codes " " ++ decimal (type_of kinds (k, 0) walk).1 ++ codes "\n"
+  pub written :
+      line ≡ codes "type " ++ decimal (type_of kinds (k, 0) walk).0
+      ++ codes " " ++ decimal (type_of kinds (k, 0) walk).1 ++ codes "\n"
 
--- The words are `check TESS RULES`, both files hold what they should within their limits, and the automaton meets the twelve conditions. The
--- line tells how many states and corner types it has.
+-- The words are `check TESS RULES`, both files hold what they should within their limits, and the
+-- automaton meets the twelve conditions.
+-- The line tells how many states and corner types it has.
 pub record TellsAccepted (call : Call) (line : List ℕ) : Type 0 where
   pub tess : List ℕ
   pub rules : List ℕ
@@ -67,4 +101,6 @@ pub record TellsAccepted (call : Call) (line : List ℕ) : Type 0 where
   pub valid : IsValid kinds
   pub rules_spelling : IsRulesFile rules_bytes automaton
   pub accepted : IsAccepted kinds automaton
-  pub written : line ≡ codes "accepted " ++ decimal (length automaton.states) ++ codes " " ++ decimal (length automaton.corners) ++ codes "\n"
+  pub written :
+      line ≡ codes "accepted " ++ decimal (length automaton.states)
+      ++ codes " " ++ decimal (length automaton.corners) ++ codes "\n"

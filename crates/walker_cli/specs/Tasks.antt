@@ -1,30 +1,26 @@
 -- What the words of the program ask for.
-use Rattle.std.specs.Prelude.{◌≡◌, ℕ, ◌≤◌, List, [], ◌∷◌, length, codes}
-use Rattle.std.specs.Str.Parse.{IsNumeral, digits_value}
+use Rattle.std.specs.Prelude.{◌≡◌, ℕ, List, [], ◌∷◌, codes}
+use Rattle.short_numbers.specs.Numbers.{IsNumber}
 use Rattle.tile_model.specs.declared.Letter.{Letter}
-use Rattle.walk_words.specs.Text.{walk_text}
+use Rattle.tile_model.specs.WalkTexts.{walk_text}
 
--- to tell the type that a walk leads to from the start of kind k, to check rules, or to answer the commands of the input over rules, in the
--- tree of kind k
+-- to tell the type that a walk leads to from the start of kind k, to check rules, or to answer the
+-- commands of the input over rules, in the tree of kind k
 pub data Task : Type 0 where
   TellType : (tess : List ℕ) (k : ℕ) (walk : List Letter) → Task
   CheckRules : (tess rules : List ℕ) → Task
   RunSession : (tess : List ℕ) (k : ℕ) (rules : List ℕ) → Task
 
--- one to nine digits with this value
-pub record IsNumber (digits : List ℕ) (n : ℕ) : Type 0 where
-  pub numeral : IsNumeral 10 digits
-  pub short : length digits ≤ 9
-  pub value : digits_value 10 digits ≡ n
-
 -- `kind TESS K LETTERS`
-pub record IsKindForm (words : List (List ℕ)) (tess : List ℕ) (k : ℕ) (walk : List Letter) : Type 0 where
+pub record IsKindForm (words : List (List ℕ)) (tess : List ℕ) (k : ℕ) (walk : List Letter) :
+    Type 0 where
   pub digits : List ℕ
   pub number : IsNumber digits k
   pub spelled : words ≡ codes "kind" ∷ tess ∷ digits ∷ walk_text walk ∷ []
 
 -- `run TESS K --rules RULES`
-pub record IsRunForm (words : List (List ℕ)) (tess : List ℕ) (k : ℕ) (rules : List ℕ) : Type 0 where
+pub record IsRunForm (words : List (List ℕ)) (tess : List ℕ) (k : ℕ) (rules : List ℕ) :
+    Type 0 where
   pub digits : List ℕ
   pub number : IsNumber digits k
   pub spelled : words ≡ codes "run" ∷ tess ∷ digits ∷ codes "--rules" ∷ rules ∷ []
@@ -43,15 +39,3 @@ HaveNoForm words = (task : Task) → Ask words task → ⊥
 -- the words are not of the form `run`
 abbrev pub AreNotOfRun : List (List ℕ) → Type 0
 AreNotOfRun words = (tess : List ℕ) (k : ℕ) (rules : List ℕ) → IsRunForm words tess k rules → ⊥
-
--- the name of the tessellation file
-abbrev pub tess_of : Task → List ℕ
-tess_of (TellType tess k walk) = tess
-tess_of (CheckRules tess rules) = tess
-tess_of (RunSession tess k rules) = tess
-
--- the task names a kind that is none of the tessellation
-abbrev pub LacksKind : Task → ℕ → Type 0
-LacksKind (TellType tess k walk) kinds = kinds ≤ k
-LacksKind (CheckRules tess rules) kinds = ⊥
-LacksKind (RunSession tess k rules) kinds = kinds ≤ k

@@ -1,6 +1,8 @@
-//! What a call of the program comes to, with its status and its line.
+//! What a call of the program says, with its status and its line.
 ghost use Rattle.std.specs.Prelude.{◌≡◌, IfOk};
-ghost use Rattle.walker_cli.specs.Lines.{status_of, line_of, numbered, kind_fault_line, shape_words_of};
+ghost use Rattle.walker_cli.specs.StatusLines.{status_of, line_of, saying_status, saying_line};
+ghost use Rattle.walker_cli.specs.StatusLines.{fault_line, numbered, kind_fault_line};
+ghost use Rattle.walker_cli.specs.StatusLines.{shape_words_of};
 
 use crate::status::Status;
 use itoa::Buffer;
@@ -16,17 +18,15 @@ pub enum Role {
     Rules,
 }
 
-/// What a call comes to, want of memory and a failed write aside.
+/// What is due to the words of a call and to what the files hold.
 #[derive(Clone, Copy, Debug, PartialEq, Eq)]
 pub enum Answer {
     /// The type that a walk leads to.
-    LeadsTo(DartType),
+    TypeTold(DartType),
     /// The rules are accepted: their numbers of states and of corner types.
     Accepted { states: u32, corners: u32 },
     /// The words are in no form, or name no kind of the tessellation.
     Usage,
-    /// A file could not be read.
-    FileFault(Role),
     /// A file is longer than its limit.
     FileTooLong(Role),
     /// The first bad line of the tessellation file, counted from 1.
@@ -47,9 +47,8 @@ impl Answer {
         ensures { result ≡ status_of self.now }
     {
         match self {
-            Answer::LeadsTo(_) | Answer::Accepted { .. } => Status::Done,
+            Answer::TypeTold(_) | Answer::Accepted { .. } => Status::Done,
             Answer::Usage => Status::Usage,
-            Answer::FileFault(_) => Status::FileFault,
             Answer::FileTooLong(_) => Status::FileTooLong,
             Answer::TessLine(_) | Answer::TessKinds(_) => Status::TessRefused,
             Answer::RulesSyntax | Answer::RulesShape { .. } => Status::RulesText,
@@ -58,11 +57,15 @@ impl Answer {
     }
 
     /// The line that goes with the answer.
+    ///
+    /// # Errors
+    ///
+    /// `AllocError` where there is no memory for the line.
     pub fn line(&self, alloc: Global) -> Result<Vec<u8>, AllocError>
         ensures { IfOk result (λ line. line.items ≡ line_of self.now) }
     {
         match self {
-            Answer::LeadsTo(t) => print_line(
+            Answer::TypeTold(t) => print_line(
                 alloc,
                 "type",
                 &[u32::from(t.kind), u32::from(t.residue)],
@@ -73,8 +76,6 @@ impl Answer {
                 &[*states, *corners],
             ),
             Answer::Usage => print_line(alloc, "usage", &[]),
-            Answer::FileFault(Role::Tess) => print_line(alloc, "file fault tess", &[]),
-            Answer::FileFault(Role::Rules) => print_line(alloc, "file fault rules", &[]),
             Answer::FileTooLong(Role::Tess) => print_line(alloc, "file too long tess", &[]),
             Answer::FileTooLong(Role::Rules) => print_line(alloc, "file too long rules", &[]),
             Answer::TessLine(n) => print_line(alloc, "tess line", &[*n]),
@@ -87,6 +88,51 @@ impl Answer {
                 &[u32::from(at.condition), at.first, u32::from(at.second)],
             ),
         }
+    }
+}
+
+/// What a call says by one line.
+#[derive(Clone, Copy, Debug, PartialEq, Eq)]
+pub enum Saying {
+    /// The answer that is due.
+    Due(Answer),
+    /// A file could not be read.
+    FileFault(Role),
+}
+
+impl Saying {
+    /// The status that goes with it.
+    pub fn status(&self) -> Status
+        ensures { result ≡ saying_status self.now }
+    {
+        match self {
+            Saying::Due(answer) => answer.status(),
+            Saying::FileFault(_) => Status::FileFault,
+        }
+    }
+
+    /// The line that goes with it.
+    ///
+    /// # Errors
+    ///
+    /// `AllocError` where there is no memory for the line.
+    pub fn line(&self, alloc: Global) -> Result<Vec<u8>, AllocError>
+        ensures { IfOk result (λ line. line.items ≡ saying_line self.now) }
+    {
+        match self {
+            Saying::Due(answer) => answer.line(alloc),
+            Saying::FileFault(role) => print_file_fault(alloc, *role),
+        }
+    }
+}
+
+/// The line of a file that could not be read.
+fn print_file_fault(alloc: Global, role: Role) -> Result<Vec<u8>, AllocError>
+    ensures { IfOk result (λ line. line.items ≡ fault_line role) }
+{
+    match role {
+        Role::Tess => print_line(alloc, "file fault tess", &[]),
+        Role::Rules => print_line(alloc, "file fault rules", &[]),
     }
 }
 
@@ -104,7 +150,8 @@ fn print_line(alloc: Global, text: &str, numbers: &[u32]) -> Result<Vec<u8>, All
     Ok(line)
 }
 
-/// The line of a check that kinds fail. No file leads to the fault of their number, which has no text.
+/// The line of a check that kinds fail. No file leads to the fault of their number, which has no
+/// text.
 fn print_kind_fault(alloc: Global, fault: KindFault) -> Result<Vec<u8>, AllocError>
     ensures { IfOk result (λ line. line.items ≡ kind_fault_line fault) }
 {

@@ -1,16 +1,20 @@
 //! What a call of the program comes to, before the input is read and anything is written.
-ghost use Rattle.std.specs.Prelude.{◌≡◌, ◌⊎◌, ◌≤◌, ◌<◌, ℕ, List, length, map, IsTrue, IfOk, Ok, Err};
+ghost use Rattle.std.specs.Prelude.{◌≡◌, ◌≤◌, ◌<◌, ℕ, List, length, map, IsTrue, IfOk, Ok, Err};
 ghost use Rattle.tile_model.specs.Tessellations.{TileKind};
 ghost use Rattle.tree_model.specs.Automata.{TreeAutomaton};
 ghost use Rattle.std.specs.String.{string_bytes};
 ghost use Rattle.way_io.specs.Counts.{Rose};
 ghost use Rattle.way_io.specs.Contents.{KeepsAll};
-ghost use Rattle.walker_cli.specs.Tasks.{TellType, CheckRules, RunSession, Ask, HaveNoForm, AreNotOfRun};
+ghost use Rattle.walker_cli.specs.Tasks.{TellType, CheckRules, RunSession, Ask, HaveNoForm};
+ghost use Rattle.walker_cli.specs.Tasks.{AreNotOfRun};
 ghost use Rattle.walker_cli.specs.Forms.{task_of};
-ghost use Rattle.walker_cli.specs.Due.{IsDue, Serves, call_of};
-ghost use Rattle.walker_cli.specs.Loading.{IsDueOf, ComesTo, ComesToServe, Says, SaysSome, ServesOver, HasKind, IsFileFault, TellsFault, IsPlanDue, Settles};
+ghost use Rattle.walker_cli.specs.Runs.{call_with};
+ghost use Rattle.walker_cli.specs.Due.{Row, IsDue, Serves};
+ghost use Rattle.walker_cli.specs.Loading.{IfPlan, ServesFor, FitsTask, IsPlanDue, SaysAs};
+ghost use Rattle.walker_cli.specs.Loading.{ServesOver};
+ghost use Rattle.walker_cli.specs.Loading.{SaysSome, HasKind, TellsFault, Settles};
 
-use crate::answer::{Answer, Role};
+use crate::answer::{Answer, Role, Saying};
 use crate::load::{Refusal, load_rules, load_tess};
 use crate::words::{Form, WordsFault, read_words};
 use std::alloc::{AllocError, Global};
@@ -21,8 +25,8 @@ use way_io::Files;
 /// What a call comes to.
 #[derive(Debug, Drop)]
 pub enum Plan {
-    /// To say an answer.
-    Say(Answer),
+    /// To say one line.
+    Say(Saying),
     /// To answer the commands of the input over rules, in the tree of a kind.
     Serve { rules: Rules, kind: u8 },
 }
@@ -35,13 +39,14 @@ fn tell_type<F: Files>(
     kind: u32,
     walk: &Walk,
 ) -> Result<Plan, Refusal>
-    ensures due { IsTrue F.tells → (words : List (List ℕ)) → Ask words (TellType tess.now kind walk.now)
-        → IsDueOf (record { words = words; contents = F.contents files.old }) result }
-    ensures exact { IsTrue F.tells → (words : List (List ℕ)) (answer : Answer) → Ask words (TellType tess.now kind walk.now)
-        → IsDue (record { words = words; contents = F.contents files.old }) answer → ComesTo answer result }
+    ensures due { IsTrue F.tells
+        → IfPlan result (FitsTask (F.contents files.old) (TellType tess.now kind walk.now)) }
+    ensures exact { IsTrue F.tells → (answer : Answer)
+        → Row (F.contents files.old) (TellType tess.now kind walk.now) answer
+        → IfPlan result (SaysAs answer) }
     ensures said { IfOk result SaysSome }
-    ensures plain { (answer : Answer) → result ≡ Err (Refusal.Answered answer) → IsFileFault answer → ⊥ }
-    ensures failed { (r : Role) → result ≡ Err (Refusal.Failed r) → Rose (F.fetch_faults files.old) (F.fetch_faults files.new) }
+    ensures failed { (r : Role) → result ≡ Err (Refusal.Said (Saying.FileFault r))
+        → Rose (F.fetch_faults files.old) (F.fetch_faults files.new) }
     ensures no_fault { IfOk result (λ plan. TellsFault plan → ⊥) }
     ensures same { IsTrue F.tells → KeepsAll (F.contents files.old) (F.contents files.new) }
     ensures stores { F.store_faults files.new ≡ F.store_faults files.old }
@@ -51,26 +56,28 @@ fn tell_type<F: Files>(
         Err(refusal) => return Err(refusal),
     };
     if kind >= u32::from(tess.kinds()) {
-        return Ok(Plan::Say(Answer::Usage));
+        return Ok(Plan::Say(Saying::Due(Answer::Usage)));
     }
     let start = tess.start(kind as u8);
-    Ok(Plan::Say(Answer::LeadsTo(type_of(&tess, start, walk))))
+    Ok(Plan::Say(Saying::Due(Answer::TypeTold(type_of(&tess, start, walk)))))
 }
 
-/// Whether the rules of a file are accepted over the tessellation of a file, and how many states and corner types they have.
+/// Whether the rules of a file are accepted over the tessellation of a file, and how many states
+/// and corner types they have.
 fn check_rules<F: Files>(
     alloc: Global,
     files: &mut F,
     tess: &str,
     rules: &str,
 ) -> Result<Plan, Refusal>
-    ensures due { IsTrue F.tells → (words : List (List ℕ)) → Ask words (CheckRules tess.now rules.now)
-        → IsDueOf (record { words = words; contents = F.contents files.old }) result }
-    ensures exact { IsTrue F.tells → (words : List (List ℕ)) (answer : Answer) → Ask words (CheckRules tess.now rules.now)
-        → IsDue (record { words = words; contents = F.contents files.old }) answer → ComesTo answer result }
+    ensures due { IsTrue F.tells
+        → IfPlan result (FitsTask (F.contents files.old) (CheckRules tess.now rules.now)) }
+    ensures exact { IsTrue F.tells → (answer : Answer)
+        → Row (F.contents files.old) (CheckRules tess.now rules.now) answer
+        → IfPlan result (SaysAs answer) }
     ensures said { IfOk result SaysSome }
-    ensures plain { (answer : Answer) → result ≡ Err (Refusal.Answered answer) → IsFileFault answer → ⊥ }
-    ensures failed { (r : Role) → result ≡ Err (Refusal.Failed r) → Rose (F.fetch_faults files.old) (F.fetch_faults files.new) }
+    ensures failed { (r : Role) → result ≡ Err (Refusal.Said (Saying.FileFault r))
+        → Rose (F.fetch_faults files.old) (F.fetch_faults files.new) }
     ensures no_fault { IfOk result (λ plan. TellsFault plan → ⊥) }
     ensures same { IsTrue F.tells → KeepsAll (F.contents files.old) (F.contents files.new) }
     ensures stores { F.store_faults files.new ≡ F.store_faults files.old }
@@ -83,12 +90,13 @@ fn check_rules<F: Files>(
         Ok(rules) => rules,
         Err(refusal) => return Err(refusal),
     };
-    Ok(Plan::Say(accepted(&rules)))
+    Ok(Plan::Say(Saying::Due(accepted(&rules))))
 }
 
 /// The answer that tells how many states and corner types rules have.
 fn accepted(rules: &Rules) -> Answer
-    ensures { result ≡ Answer.Accepted (length rules.now.automaton.states) (length rules.now.automaton.corners) }
+    ensures { result ≡ Answer.Accepted
+        (length rules.now.automaton.states) (length rules.now.automaton.corners) }
 {
     let automaton = rules.automaton();
     Answer::Accepted {
@@ -97,7 +105,8 @@ fn accepted(rules: &Rules) -> Answer
     }
 }
 
-/// The rules of a file that are accepted over the tessellation of a file, and a kind of it, to serve walkers over.
+/// The rules of a file that are accepted over the tessellation of a file, and a kind of it, to
+/// serve walkers over.
 fn open_session<F: Files>(
     alloc: Global,
     files: &mut F,
@@ -105,15 +114,17 @@ fn open_session<F: Files>(
     kind: u32,
     rules: &str,
 ) -> Result<Plan, Refusal>
-    ensures due { IsTrue F.tells → (words : List (List ℕ)) → Ask words (RunSession tess.now kind rules.now)
-        → IsDueOf (record { words = words; contents = F.contents files.old }) result }
-    ensures exact { IsTrue F.tells → (words : List (List ℕ)) (answer : Answer) → Ask words (RunSession tess.now kind rules.now)
-        → IsDue (record { words = words; contents = F.contents files.old }) answer → ComesTo answer result }
-    ensures serves { IsTrue F.tells → (words : List (List ℕ)) (kinds : List TileKind) (a : TreeAutomaton) (k : ℕ) → Ask words (RunSession tess.now kind rules.now)
-        → Serves (record { words = words; contents = F.contents files.old }) kinds a k → ComesToServe kinds a k result }
+    ensures due { IsTrue F.tells
+        → IfPlan result (FitsTask (F.contents files.old) (RunSession tess.now kind rules.now)) }
+    ensures exact { IsTrue F.tells → (answer : Answer)
+        → Row (F.contents files.old) (RunSession tess.now kind rules.now) answer
+        → IfPlan result (SaysAs answer) }
+    ensures serves { IsTrue F.tells → (kinds : List TileKind) (a : TreeAutomaton) (k : ℕ)
+        → ServesFor (F.contents files.old) (RunSession tess.now kind rules.now) kinds a k
+        → IfPlan result (ServesOver kinds a k) }
     ensures kind { IfOk result HasKind }
-    ensures plain { (answer : Answer) → result ≡ Err (Refusal.Answered answer) → IsFileFault answer → ⊥ }
-    ensures failed { (r : Role) → result ≡ Err (Refusal.Failed r) → Rose (F.fetch_faults files.old) (F.fetch_faults files.new) }
+    ensures failed { (r : Role) → result ≡ Err (Refusal.Said (Saying.FileFault r))
+        → Rose (F.fetch_faults files.old) (F.fetch_faults files.new) }
     ensures no_fault { IfOk result (λ plan. TellsFault plan → ⊥) }
     ensures same { IsTrue F.tells → KeepsAll (F.contents files.old) (F.contents files.new) }
     ensures stores { F.store_faults files.new ≡ F.store_faults files.old }
@@ -123,7 +134,7 @@ fn open_session<F: Files>(
         Err(refusal) => return Err(refusal),
     };
     if kind >= u32::from(tess.kinds()) {
-        return Ok(Plan::Say(Answer::Usage));
+        return Ok(Plan::Say(Saying::Due(Answer::Usage)));
     }
     match load_rules(alloc, files, tess, rules) {
         Ok(rules) => Ok(Plan::Serve {
@@ -136,16 +147,19 @@ fn open_session<F: Files>(
 
 /// Does what a form of the words asks for.
 fn carry_out<F: Files>(alloc: Global, form: &Form, files: &mut F) -> Result<Plan, Refusal>
-    ensures due { IsTrue F.tells → (words : List (List ℕ)) → Ask words (task_of form.now)
-        → IsDueOf (record { words = words; contents = F.contents files.old }) result }
-    ensures exact { IsTrue F.tells → (words : List (List ℕ)) (answer : Answer) → Ask words (task_of form.now)
-        → IsDue (record { words = words; contents = F.contents files.old }) answer → ComesTo answer result }
-    ensures serves { IsTrue F.tells → (words : List (List ℕ)) (kinds : List TileKind) (a : TreeAutomaton) (k : ℕ) → Ask words (task_of form.now)
-        → Serves (record { words = words; contents = F.contents files.old }) kinds a k → ComesToServe kinds a k result }
+    ensures due { IsTrue F.tells
+        → IfPlan result (FitsTask (F.contents files.old) (task_of form.now)) }
+    ensures exact { IsTrue F.tells → (answer : Answer)
+        → Row (F.contents files.old) (task_of form.now) answer
+        → IfPlan result (SaysAs answer) }
+    ensures serves { IsTrue F.tells → (kinds : List TileKind) (a : TreeAutomaton) (k : ℕ)
+        → ServesFor (F.contents files.old) (task_of form.now) kinds a k
+        → IfPlan result (ServesOver kinds a k) }
     ensures kind { IfOk result HasKind }
-    ensures said { (words : List (List ℕ)) → Ask words (task_of form.now) → AreNotOfRun words → IfOk result SaysSome }
-    ensures plain { (answer : Answer) → result ≡ Err (Refusal.Answered answer) → IsFileFault answer → ⊥ }
-    ensures failed { (r : Role) → result ≡ Err (Refusal.Failed r) → Rose (F.fetch_faults files.old) (F.fetch_faults files.new) }
+    ensures said { (words : List (List ℕ)) → Ask words (task_of form.now) → AreNotOfRun words
+        → IfOk result SaysSome }
+    ensures failed { (r : Role) → result ≡ Err (Refusal.Said (Saying.FileFault r))
+        → Rose (F.fetch_faults files.old) (F.fetch_faults files.new) }
     ensures no_fault { IfOk result (λ plan. TellsFault plan → ⊥) }
     ensures same { IsTrue F.tells → KeepsAll (F.contents files.old) (F.contents files.new) }
     ensures stores { F.store_faults files.new ≡ F.store_faults files.old }
@@ -158,22 +172,32 @@ fn carry_out<F: Files>(alloc: Global, form: &Form, files: &mut F) -> Result<Plan
 }
 
 /// What a call comes to. Only want of memory keeps it from a plan.
+///
+/// # Errors
+///
+/// `AllocError` where there is no memory for what the words say or for what the files hold.
 pub fn decide<F: Files>(alloc: Global, words: &[String], files: &mut F) -> Result<Plan, AllocError>
-    ensures due { IsTrue F.tells → IfOk result (IsPlanDue (call_of words.now (F.contents files.old))) }
-    ensures exact { IsTrue F.tells → (answer : Answer) → IsDue (call_of words.now (F.contents files.old)) answer
-        → IfOk result (λ plan. Says answer plan ⊎ TellsFault plan) }
-    ensures serves { IsTrue F.tells → (kinds : List TileKind) (a : TreeAutomaton) (k : ℕ) → Serves (call_of words.now (F.contents files.old)) kinds a k
-        → IfOk result (λ plan. ServesOver kinds a k plan ⊎ TellsFault plan) }
-    ensures no_form { HaveNoForm (map string_bytes words.now) → IfOk result (Says Answer.Usage) }
+    ensures due { IsTrue F.tells → IfOk result
+        (IsPlanDue (call_with (map string_bytes words.now) (F.contents files.old))) }
+    ensures exact { IsTrue F.tells → (answer : Answer)
+        → IsDue (call_with (map string_bytes words.now) (F.contents files.old)) answer
+        → IfOk result (SaysAs answer) }
+    ensures serves { IsTrue F.tells → (kinds : List TileKind) (a : TreeAutomaton) (k : ℕ)
+        → Serves (call_with (map string_bytes words.now) (F.contents files.old)) kinds a k
+        → IfOk result (ServesOver kinds a k) }
+    ensures no_form { HaveNoForm (map string_bytes words.now)
+        → IfOk result (λ plan. plan ≡ Plan.Say (Saying.Due Answer.Usage)) }
     ensures said { AreNotOfRun (map string_bytes words.now) → IfOk result SaysSome }
     ensures kind { IfOk result HasKind }
-    ensures failed { IfOk result (λ plan. TellsFault plan → Rose (F.fetch_faults files.old) (F.fetch_faults files.new)) }
+    ensures failed { IfOk result
+        (λ plan. TellsFault plan → Rose (F.fetch_faults files.old) (F.fetch_faults files.new)) }
     ensures same { IsTrue F.tells → KeepsAll (F.contents files.old) (F.contents files.new) }
     ensures stores { F.store_faults files.new ≡ F.store_faults files.old }
+    ensures unfetched { HaveNoForm (map string_bytes words.now) → files.new ≡ files.old }
 {
     let form = match read_words(alloc, words) {
         Ok(form) => form,
-        Err(WordsFault::Usage) => return Ok(Plan::Say(Answer::Usage)),
+        Err(WordsFault::Usage) => return Ok(Plan::Say(Saying::Due(Answer::Usage))),
         Err(WordsFault::Memory) => return Err(AllocError),
     };
     settle(carry_out(alloc, &form, files))
@@ -185,8 +209,7 @@ fn settle(told: Result<Plan, Refusal>) -> Result<Plan, AllocError>
 {
     match told {
         Ok(plan) => Ok(plan),
-        Err(Refusal::Answered(answer)) => Ok(Plan::Say(answer)),
-        Err(Refusal::Failed(role)) => Ok(Plan::Say(Answer::FileFault(role))),
+        Err(Refusal::Said(saying)) => Ok(Plan::Say(saying)),
         Err(Refusal::Memory) => Err(AllocError),
     }
 }

@@ -1,23 +1,25 @@
 //! The files that the words name: fetched, read and checked.
-ghost use Rattle.std.specs.Prelude.{◌≡◌, ◌⊎◌, ◌≤◌, ℕ, List, length, IsTrue, IfOk, IfErr, MatchResult, Err};
+ghost use Rattle.std.specs.Prelude.{◌≡◌, ◌⊎◌, ◌≤◌, ℕ, List, length, IsTrue, IfOk, IfErr};
+ghost use Rattle.std.specs.Prelude.{MatchResult, Err};
 ghost use Rattle.tile_model.specs.Tessellations.{TileKind};
 ghost use Rattle.tile_model.specs.Validity.{IsValid};
 ghost use Rattle.tree_model.specs.Automata.{TreeAutomaton};
 ghost use Rattle.way_io.specs.Counts.{Rose};
 ghost use Rattle.way_io.specs.Contents.{KeepsAll};
-ghost use Rattle.walker_cli.specs.Held.{Loaded, Refused, Holds, HoldsTooMany, IsTess, IsRules, tess_limit, rules_limit};
+ghost use Rattle.walker_cli.specs.Held.{Loaded, Refused, Holds, HoldsTooMany, IsTess, IsRules};
+ghost use Rattle.walker_cli.specs.Held.{broken_at, tess_limit, rules_limit};
 ghost use Rattle.tess_text.specs.Grammar.{IsFirstBadLine};
 ghost use Rattle.tess_text.specs.Spelling.{IsSpelling, IsRefused};
-ghost use Rattle.tile_kinds.specs.declared.fault.KindFault.{KindFault};
+ghost use Rattle.tile_model.specs.declared.fault.KindFault.{KindFault};
 ghost use Rattle.serde_json.specs.Data.{Data};
 ghost use Rattle.rules_file.specs.declared.fault.Part.{Part};
 ghost use Rattle.rules_file.specs.Spelling.{IsTextOf, IsRulesFile};
 ghost use Rattle.rules_file.specs.Faults.{IsFirstFault};
 ghost use Rattle.tree_model.specs.Conditions.{IsAccepted};
 ghost use Rattle.structure_check.specs.Broken.{IsFirstBroken};
-ghost use Rattle.walker_cli.specs.Loading.{IsRefusedAs, IsOfOutside, IsFileFault};
+ghost use Rattle.walker_cli.specs.Loading.{IsRefusedAs, IsOfOutside};
 
-use crate::answer::{Answer, Role};
+use crate::answer::{Answer, Role, Saying};
 use rules_file::{RulesFault, read_rules};
 use std::alloc::Global;
 use structure_check::{Rules, check};
@@ -34,10 +36,8 @@ pub const RULES_LIMIT: u32 = 33_554_432;
 /// Why nothing was loaded.
 #[derive(Clone, Copy, Debug, PartialEq, Eq)]
 pub enum Refusal {
-    /// The answer that is due to what the file holds.
-    Answered(Answer),
-    /// A file could not be read.
-    Failed(Role),
+    /// What is said of the file.
+    Said(Saying),
     /// There was no memory.
     Memory,
 }
@@ -50,24 +50,28 @@ fn fetch<F: Files>(
     name: &str,
     limit: u32,
 ) -> Result<Vec<u8>, Refusal>
-    ensures ok { IsTrue F.tells → IfOk result (λ bytes. Holds (F.contents files.old) name.now limit bytes.items) }
+    ensures ok { IsTrue F.tells
+        → IfOk result (λ bytes. Holds (F.contents files.old) name.now limit bytes.items) }
     ensures within { IfOk result (λ bytes. length bytes.items ≤ limit) }
-    ensures refused { IsTrue F.tells → (answer : Answer) → result ≡ Err (Refusal.Answered answer)
+    ensures role { (r : Role) → result ≡ Err (Refusal.Said (Saying.FileFault r)) → r ≡ role }
+    ensures refused { IsTrue F.tells
+        → (answer : Answer) → result ≡ Err (Refusal.Said (Saying.Due answer))
         → (answer ≡ Answer.FileTooLong role) × HoldsTooMany (F.contents files.old) name.now limit }
-    ensures held { IsTrue F.tells → (bytes : List ℕ) → Holds (F.contents files.old) name.now limit bytes
+    ensures held { IsTrue F.tells
+        → (bytes : List ℕ) → Holds (F.contents files.old) name.now limit bytes
         → MatchResult result (λ b. b.items ≡ bytes) IsOfOutside }
     ensures too_many { IsTrue F.tells → HoldsTooMany (F.contents files.old) name.now limit
         → MatchResult result (λ _. ⊥) (IsRefusedAs (Answer.FileTooLong role)) }
-    ensures plain { (answer : Answer) → result ≡ Err (Refusal.Answered answer) → IsFileFault answer → ⊥ }
-    ensures failed { (r : Role) → result ≡ Err (Refusal.Failed r) → Rose (F.fetch_faults files.old) (F.fetch_faults files.new) }
+    ensures failed { (r : Role) → result ≡ Err (Refusal.Said (Saying.FileFault r))
+        → Rose (F.fetch_faults files.old) (F.fetch_faults files.new) }
     ensures later { F.fetch_faults files.old ≤ F.fetch_faults files.new }
     ensures same { IsTrue F.tells → KeepsAll (F.contents files.old) (F.contents files.new) }
     ensures stores { F.store_faults files.new ≡ F.store_faults files.old }
 {
     match files.fetch(alloc, name, limit) {
         Ok(bytes) => Ok(bytes),
-        Err(FetchFault::Failed) => Err(Refusal::Failed(role)),
-        Err(FetchFault::TooLong) => Err(Refusal::Answered(Answer::FileTooLong(role))),
+        Err(FetchFault::Failed) => Err(Refusal::Said(Saying::FileFault(role))),
+        Err(FetchFault::TooLong) => Err(Refusal::Said(Saying::Due(Answer::FileTooLong(role)))),
         Err(FetchFault::Memory) => Err(Refusal::Memory),
     }
 }
@@ -78,19 +82,27 @@ pub fn load_tess<F: Files>(
     files: &mut F,
     name: &str,
 ) -> Result<Tessellation, Refusal>
-    ensures ok { IsTrue F.tells → IfOk result (λ t. IsTess (F.contents files.old) name.now (Loaded t)) }
+    ensures ok { IsTrue F.tells
+        → IfOk result (λ t. IsTess (F.contents files.old) name.now (Loaded t)) }
     ensures valid { IfOk result IsValid }
-    ensures refused { IsTrue F.tells → (answer : Answer) → result ≡ Err (Refusal.Answered answer) → IsTess (F.contents files.old) name.now (Refused answer) }
+    ensures role { (r : Role) → result ≡ Err (Refusal.Said (Saying.FileFault r)) → r ≡ Role.Tess }
+    ensures refused { IsTrue F.tells
+        → (answer : Answer) → result ≡ Err (Refusal.Said (Saying.Due answer))
+        → IsTess (F.contents files.old) name.now (Refused answer) }
     ensures too_long { IsTrue F.tells → HoldsTooMany (F.contents files.old) name.now tess_limit
         → MatchResult result (λ _. ⊥) (IsRefusedAs (Answer.FileTooLong Role.Tess)) }
-    ensures bad_line { IsTrue F.tells → (bytes : List ℕ) (n : ℕ) → Holds (F.contents files.old) name.now tess_limit bytes → IsFirstBadLine bytes n
+    ensures bad_line { IsTrue F.tells → (bytes : List ℕ) (n : ℕ)
+        → Holds (F.contents files.old) name.now tess_limit bytes → IsFirstBadLine bytes n
         → MatchResult result (λ _. ⊥) (IsRefusedAs (Answer.TessLine n)) }
-    ensures bad_kinds { IsTrue F.tells → (bytes : List ℕ) (fault : KindFault) → Holds (F.contents files.old) name.now tess_limit bytes → IsRefused bytes fault
+    ensures bad_kinds { IsTrue F.tells → (bytes : List ℕ) (fault : KindFault)
+        → Holds (F.contents files.old) name.now tess_limit bytes → IsRefused bytes fault
         → MatchResult result (λ _. ⊥) (IsRefusedAs (Answer.TessKinds fault)) }
-    ensures loaded { IsTrue F.tells → (bytes : List ℕ) (kinds : List TileKind) → Holds (F.contents files.old) name.now tess_limit bytes → IsSpelling bytes kinds → IsValid kinds
+    ensures loaded { IsTrue F.tells → (bytes : List ℕ) (kinds : List TileKind)
+        → Holds (F.contents files.old) name.now tess_limit bytes
+        → IsSpelling bytes kinds → IsValid kinds
         → MatchResult result (λ t. t ≡ kinds) IsOfOutside }
-    ensures plain { (answer : Answer) → result ≡ Err (Refusal.Answered answer) → IsFileFault answer → ⊥ }
-    ensures failed { (r : Role) → result ≡ Err (Refusal.Failed r) → Rose (F.fetch_faults files.old) (F.fetch_faults files.new) }
+    ensures failed { (r : Role) → result ≡ Err (Refusal.Said (Saying.FileFault r))
+        → Rose (F.fetch_faults files.old) (F.fetch_faults files.new) }
     ensures later { F.fetch_faults files.old ≤ F.fetch_faults files.new }
     ensures same { IsTrue F.tells → KeepsAll (F.contents files.old) (F.contents files.new) }
     ensures stores { F.store_faults files.new ≡ F.store_faults files.old }
@@ -101,8 +113,8 @@ pub fn load_tess<F: Files>(
     };
     match read_tess(alloc, &bytes) {
         Ok(tess) => Ok(tess),
-        Err(TessFault::Line(line)) => Err(Refusal::Answered(Answer::TessLine(line))),
-        Err(TessFault::Kinds(fault)) => Err(Refusal::Answered(Answer::TessKinds(fault))),
+        Err(TessFault::Line(line)) => Err(Refusal::Said(Saying::Due(Answer::TessLine(line)))),
+        Err(TessFault::Kinds(fault)) => Err(Refusal::Said(Saying::Due(Answer::TessKinds(fault)))),
         Err(TessFault::Memory) => Err(Refusal::Memory),
     }
 }
@@ -114,21 +126,34 @@ pub fn load_rules<F: Files>(
     tess: Tessellation,
     name: &str,
 ) -> Result<Rules, Refusal>
-    ensures ok { IsTrue F.tells → IfOk result (λ r. IsRules (F.contents files.old) tess name.now (Loaded r.automaton)) }
+    ensures ok { IsTrue F.tells
+        → IfOk result (λ r. IsRules (F.contents files.old) tess name.now (Loaded r.automaton)) }
     ensures kinds { IfOk result (λ r. r.kinds ≡ tess) }
-    ensures refused { IsTrue F.tells → (answer : Answer) → result ≡ Err (Refusal.Answered answer) → IsRules (F.contents files.old) tess name.now (Refused answer) }
+    ensures role { (r : Role) → result ≡ Err (Refusal.Said (Saying.FileFault r)) → r ≡ Role.Rules }
+    ensures refused { IsTrue F.tells
+        → (answer : Answer) → result ≡ Err (Refusal.Said (Saying.Due answer))
+        → IsRules (F.contents files.old) tess name.now (Refused answer) }
     ensures too_long { IsTrue F.tells → HoldsTooMany (F.contents files.old) name.now rules_limit
         → MatchResult result (λ _. ⊥) (IsRefusedAs (Answer.FileTooLong Role.Rules)) }
-    ensures no_text { IsTrue F.tells → (bytes : List ℕ) → Holds (F.contents files.old) name.now rules_limit bytes → ((d : Data) → ¬ IsTextOf bytes d)
+    ensures no_text { IsTrue F.tells → (bytes : List ℕ)
+        → Holds (F.contents files.old) name.now rules_limit bytes
+        → ((d : Data) → ¬ IsTextOf bytes d)
         → MatchResult result (λ _. ⊥) (IsRefusedAs Answer.RulesSyntax) }
-    ensures misshapen { IsTrue F.tells → (bytes : List ℕ) (d : Data) (part : Part) (i : ℕ) → Holds (F.contents files.old) name.now rules_limit bytes → IsTextOf bytes d → IsFirstFault d part i
+    ensures misshapen { IsTrue F.tells → (bytes : List ℕ) (d : Data) (part : Part) (i : ℕ)
+        → Holds (F.contents files.old) name.now rules_limit bytes
+        → IsTextOf bytes d → IsFirstFault d part i
         → MatchResult result (λ _. ⊥) (IsRefusedAs (Answer.RulesShape part i)) }
-    ensures broken { IsTrue F.tells → (bytes : List ℕ) (a : TreeAutomaton) (c first second : ℕ) → Holds (F.contents files.old) name.now rules_limit bytes → IsRulesFile bytes a → IsFirstBroken tess a c first second
-        → MatchResult result (λ _. ⊥) (IsRefusedAs (Answer.Broken (record { condition = c; first = first; second = second }))) }
-    ensures loaded { IsTrue F.tells → (bytes : List ℕ) (a : TreeAutomaton) → Holds (F.contents files.old) name.now rules_limit bytes → IsRulesFile bytes a → IsAccepted tess a
+    ensures broken { IsTrue F.tells
+        → (bytes : List ℕ) (a : TreeAutomaton) (c first second : ℕ)
+        → Holds (F.contents files.old) name.now rules_limit bytes
+        → IsRulesFile bytes a → IsFirstBroken tess a c first second
+        → MatchResult result (λ _. ⊥) (IsRefusedAs (broken_at c first second)) }
+    ensures loaded { IsTrue F.tells → (bytes : List ℕ) (a : TreeAutomaton)
+        → Holds (F.contents files.old) name.now rules_limit bytes
+        → IsRulesFile bytes a → IsAccepted tess a
         → MatchResult result (λ r. r.automaton ≡ a) IsOfOutside }
-    ensures plain { (answer : Answer) → result ≡ Err (Refusal.Answered answer) → IsFileFault answer → ⊥ }
-    ensures failed { (r : Role) → result ≡ Err (Refusal.Failed r) → Rose (F.fetch_faults files.old) (F.fetch_faults files.new) }
+    ensures failed { (r : Role) → result ≡ Err (Refusal.Said (Saying.FileFault r))
+        → Rose (F.fetch_faults files.old) (F.fetch_faults files.new) }
     ensures same { IsTrue F.tells → KeepsAll (F.contents files.old) (F.contents files.new) }
     ensures stores { F.store_faults files.new ≡ F.store_faults files.old }
 {
@@ -138,14 +163,14 @@ pub fn load_rules<F: Files>(
     };
     let automaton = match read_rules(alloc, &bytes) {
         Ok(automaton) => automaton,
-        Err(RulesFault::Syntax) => return Err(Refusal::Answered(Answer::RulesSyntax)),
+        Err(RulesFault::Syntax) => return Err(Refusal::Said(Saying::Due(Answer::RulesSyntax))),
         Err(RulesFault::Shape { part, index }) => {
-            return Err(Refusal::Answered(Answer::RulesShape { part, index }));
+            return Err(Refusal::Said(Saying::Due(Answer::RulesShape { part, index })));
         }
         Err(RulesFault::Memory) => return Err(Refusal::Memory),
     };
     match check(tess, automaton) {
         Ok(rules) => Ok(rules),
-        Err((_, _, broken)) => Err(Refusal::Answered(Answer::Broken(broken))),
+        Err((_, _, broken)) => Err(Refusal::Said(Saying::Due(Answer::Broken(broken)))),
     }
 }

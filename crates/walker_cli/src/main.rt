@@ -1,5 +1,5 @@
-//! The program: it reads its words and the files that they name, does what they ask for, with the commands of the input where they ask for
-//! that, and exits with a status.
+//! The program: it reads its words and the files that they name, does what they ask for, with the
+//! commands of the input where they ask for that, and exits with a status.
 #![tactic(auto)]
 
 mod answer;
@@ -19,11 +19,13 @@ use std::{env, io};
 use way_io::{HostFiles, StdSink, StdSource};
 
 fn main(rt: HostRuntime) -> ExitCode {
-    // Words that are not UTF-8 are in no form, as no words are.
-    let words = words_of(rt.alloc(), &rt).unwrap_or(Vec::new(rt.alloc()));
+    let words = match words::words_read(rt.alloc(), words_of(rt.alloc(), &rt)) {
+        Ok(words) => words,
+        Err(status) => return ExitCode::from(status.code()),
+    };
     let mut files = HostFiles::new(&rt);
-    let mut input = StdSource::new(&rt);
-    let mut out = StdSink::new(&rt);
+    let mut input = StdSource::new(rt.reader());
+    let mut out = StdSink::new(io::writer(&rt));
     let status = run::run(
         rt.alloc(),
         words.as_slice(),

@@ -1,6 +1,6 @@
 //! The commands of the input, answered.
 ghost use Rattle.std.specs.Prelude.{◌≡◌, ◌<◌, ◌⊎◌, ◌++◌, length, IsTrue};
-ghost use Rattle.reply_model.specs.WalkReadings.{IsWalkReply};
+ghost use Rattle.line_server.specs.Answering.{over_walks};
 ghost use Rattle.way_io.specs.Counts.{Rose};
 ghost use Rattle.way_io.specs.Pieces.{AppendsPrefix};
 ghost use Rattle.line_server.specs.Endings.{GivesInOrder, TakesMore};
@@ -14,8 +14,8 @@ use std::alloc::Global;
 use structure_check::Rules;
 use way_io::{Sink, Source, write_piece};
 
-/// Answers the commands of the input over rules, in the tree of a kind, and tells how that ended. An input that is too long is told by a line
-/// of its own.
+/// Answers the commands of the input over rules, in the tree of a kind, and tells how that ended.
+/// An input that is too long is told by a line of its own.
 pub fn serve_walkers<I: Source, O: Sink>(
     alloc: Global,
     rules: &Rules,
@@ -24,9 +24,12 @@ pub fn serve_walkers<I: Source, O: Sink>(
     out: &mut O,
 ) -> Status
     requires { kind < length rules.now.kinds }
-    ensures ends { EndsStream I.tells O.tells (IsWalkReply rules.now.kinds rules.now.automaton kind) (I.left input.old) (I.left input.new) (O.taken out.old) (O.taken out.new) result }
+    ensures ends { EndsStream I.tells O.tells
+        (over_walks rules.now.kinds rules.now.automaton kind)
+        (I.left input.old) (I.left input.new) (O.taken out.old) (O.taken out.new) result }
     ensures file_fault { result ≡ Status.FileFault → ⊥ }
-    ensures read_cause { result ≡ Status.ReadFault → Rose (I.faults input.old) (I.faults input.new) }
+    ensures read_cause { result ≡ Status.ReadFault
+        → Rose (I.faults input.old) (I.faults input.new) }
     ensures write_cause { result ≡ Status.WriteFault → Rose (O.faults out.old) (O.faults out.new) }
     ensures in_order { IsTrue I.tells → GivesInOrder (I.left input.old) (I.left input.new) }
     ensures kept { IsTrue O.tells → TakesMore (O.taken out.old) (O.taken out.new) }
@@ -46,8 +49,10 @@ pub fn serve_walkers<I: Source, O: Sink>(
 /// Writes the line of an input that is too long, and tells how that ended.
 fn refuse_input<O: Sink>(out: &mut O) -> Status
     ensures ends { (result ≡ Status.InputTooLong) ⊎ (result ≡ Status.WriteFault) }
-    ensures told { IsTrue O.tells → result ≡ Status.InputTooLong → O.taken out.new ≡ O.taken out.old ++ too_long_line }
-    ensures prefix { IsTrue O.tells → AppendsPrefix (O.taken out.old) (O.taken out.new) too_long_line }
+    ensures told { IsTrue O.tells → result ≡ Status.InputTooLong
+        → O.taken out.new ≡ O.taken out.old ++ too_long_line }
+    ensures prefix { IsTrue O.tells
+        → AppendsPrefix (O.taken out.old) (O.taken out.new) too_long_line }
     ensures cause { result ≡ Status.WriteFault → Rose (O.faults out.old) (O.faults out.new) }
 {
     match write_piece(out, b"input too long\n") {

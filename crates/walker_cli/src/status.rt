@@ -1,6 +1,6 @@
 //! How a run of the program ends.
 ghost use Rattle.std.specs.Prelude.{◌≡◌};
-ghost use Rattle.walker_cli.specs.Lines.{code_of};
+ghost use Rattle.walker_cli.specs.StatusLines.{code_of};
 
 /// How a run ended. The program exits with its [`code`](Status::code).
 #[derive(Clone, Copy, Debug, PartialEq, Eq)]

@@ -1,16 +1,19 @@
-// The worked rows over files, sources and sinks in memory: the words, the input, what is written, and the exit status.
+// The worked rows over files, sources and sinks in memory: the words, what the file x holds, the
+// input, what is written, and the exit status.
 use crate::run::run;
+use crate::status::Status;
+use crate::words::words_read;
+use sample_tilings::{
+    HEPTAGONS_AND_HEXAGONS_RULES, HEPTAGONS_AND_HEXAGONS_TESS, HEPTAGONS_RULES, HEPTAGONS_TESS,
+    PENTAGONS_RULES, PENTAGONS_TESS,
+};
 use std::alloc::{AllocError, Global};
+use std::io;
 use std::test::Fail;
 use way_io::{FillSource, MemFiles, MemSink, MemSource, Source};
 
-const P54: &str = "tess 1\nkind 0 5 1\njoin 0 0 0 0\ncorner 0 0 4\n";
-
-const HR: &str =
-    "tess 1\nkind 0 7 1\nkind 1 6 2\njoin 0 0 1 0\njoin 1 1 1 1\ncorner 0 0 3\ncorner 1 0 3\ncorner 1 1 3\n";
-
-const P54_RULES: &str =
-    "{\"corners\":[{\"h\":[0,-1,-2,-1],\"outer\":[0,1],\"rank\":0}],\"roots\":[0],\"scale\":1,\"states\":[{\"claims\":[[0,2],[0,2],[0,2],[0,2],[0,2]],\"kind\":0,\"off\":0,\"rules\":[1,1,1,1,1]},{\"claims\":[[0,3],[0,2],[0,2],[0,2],[0,1]],\"kind\":0,\"off\":0,\"rules\":[\"P\",\"R\",1,1,2]},{\"claims\":[[0,3],[0,2],[0,2],[0,1],[0,0]],\"kind\":0,\"off\":0,\"rules\":[\"P\",\"R\",1,2,\"L\"]}],\"version\":1}\n";
+// Pentagons, three round each corner.
+const DODECAHEDRON: &str = "tess 1\nkind 0 5 1\njoin 0 0 0 0\ncorner 0 0 3\n";
 
 // A text with one place changed.
 fn changed(alloc: Global, text: &str, old: &str, new: &str) -> Result<Vec<u8>, AllocError> {
@@ -24,14 +27,21 @@ fn changed(alloc: Global, text: &str, old: &str, new: &str) -> Result<Vec<u8>, A
     Ok(out)
 }
 
-// The files of a row: the samples, and one of them changed under the name `x`.
-fn files(alloc: Global, text: &str, old: &str, new: &str) -> Result<MemFiles, AllocError> {
+// The files of a row: the samples, and these bytes under the name `x`.
+fn files(alloc: Global, x: &[u8]) -> Result<MemFiles, AllocError> {
     let mut files = MemFiles::new(alloc, &[])?;
-    files.add("p54.tess", P54.as_bytes())?;
-    files.add("hr.tess", HR.as_bytes())?;
-    files.add("p54.json", P54_RULES.as_bytes())?;
-    let x = changed(alloc, text, old, new)?;
-    files.add("x", &x)?;
+    for (name, text) in [
+        ("p54.tess", PENTAGONS_TESS),
+        ("p53.tess", DODECAHEDRON),
+        ("p73.tess", HEPTAGONS_TESS),
+        ("hr.tess", HEPTAGONS_AND_HEXAGONS_TESS),
+        ("p54.json", PENTAGONS_RULES),
+        ("p73.json", HEPTAGONS_RULES),
+        ("hr.json", HEPTAGONS_AND_HEXAGONS_RULES),
+    ] {
+        files.add(name, text.as_bytes())?;
+    }
+    files.add("x", x)?;
     Ok(files)
 }
 
@@ -53,22 +63,17 @@ fn ends<I: Source>(
     Ok(out.taken() == output.as_bytes() && status.code() == code)
 }
 
-// Whether the words lead to this line and this exit status.
-fn leads(
-    alloc: Global,
-    files: &mut MemFiles,
-    words: &str,
-    line: &str,
-    code: u8,
-) -> Result<bool, AllocError> {
+// Whether the words lead to this line and this exit status, where the file `x` holds these bytes.
+fn leads(alloc: Global, words: &str, x: &[u8], line: &str, code: u8) -> Result<bool, AllocError> {
+    let mut files = files(alloc, x)?;
     let mut input = MemSource::new(alloc, b"new 0\n", 10, &[])?;
-    ends(alloc, files, words, &mut input, line, code)
+    ends(alloc, &mut files, words, &mut input, line, code)
 }
 
 const SESSION: &str = "run p54.tess 0 --rules p54.json";
 
 #[test]
-fn tells_types(rt: HostRuntime) -> Result<(), Fail> {
+fn words_lead_to_lines(rt: HostRuntime) -> Result<(), Fail> {
     let alloc = rt.alloc();
     for (words, line, code) in [
         ("kind hr.tess 0 LXLXLX", "type 0 0\n", 0),
@@ -79,78 +84,134 @@ fn tells_types(rt: HostRuntime) -> Result<(), Fail> {
         ("kind p54.tess +0 -", "usage\n", 2),
         ("fly", "usage\n", 2),
         ("kind none.tess 0 -", "file fault tess\n", 3),
+        ("check x none.json", "tess line 1\n", 5),
+        ("check none.tess none.json", "file fault tess\n", 3),
         ("check p54.tess none.json", "file fault rules\n", 3),
+        ("check p53.tess p54.json", "broken 4 0 0\n", 7),
+        ("check p54.tess p54.json", "accepted 3 1\n", 0),
+        ("check p73.tess p73.json", "accepted 3 2\n", 0),
+        ("check hr.tess hr.json", "accepted 8 2\n", 0),
         ("run p54.tess 0 --rules none.json", "file fault rules\n", 3),
         ("run p54.tess 1 --rules none.json", "usage\n", 2),
         ("run p54.tess 0 --rules hr.tess", "rules syntax\n", 6),
         ("run hr.tess 0 --rules p54.json", "broken 1 0 0\n", 7),
         ("run p54.tess 0 --cells p54.json", "usage\n", 2),
         ("run p54.tess 0x --rules p54.json", "usage\n", 2),
-        ("check p54.tess p54.json", "accepted 3 1\n", 0),
     ] {
-        let mut files = files(alloc, P54, "", "")?;
-        assert!(rt; leads(alloc, &mut files, words, line, code)?, "{words}");
+        assert!(rt; leads(alloc, words, b"", line, code)?, "{words}");
     }
     Ok(())
 }
 
 #[test]
-fn refuses_tessellations(rt: HostRuntime) -> Result<(), Fail> {
+fn files_lead_to_lines(rt: HostRuntime) -> Result<(), Fail> {
     let alloc = rt.alloc();
-    for (old, new, line, code) in [
-        ("corner 0 0 4\n", "", "tess line 4\n", 5),
+    let (tess, check, ranked) = ("kind x 0 -", "check p54.tess x", "check p73.tess x");
+    let rules = PENTAGONS_RULES;
+    let corner = "\"rank\":0}";
+    for (words, text, old, new, line, code) in [
         (
-            "join 0 0 0 0\n",
-            "join 0 0 0 0\njoin 0 0 0 0\n",
+            tess,
+            HEPTAGONS_AND_HEXAGONS_TESS,
+            "0 0 3\ncorner 1 0 3\ncorner 1 1 3",
+            "0 0 4\ncorner 1 0 4\ncorner 1 1 4",
+            "tess corner 0 0\n",
+            5,
+        ),
+        (tess, PENTAGONS_TESS, PENTAGONS_TESS, "", "tess line 1\n", 5),
+        (
+            tess,
+            PENTAGONS_TESS,
+            "corner 0 0 4\n",
+            "",
             "tess line 4\n",
             5,
         ),
-        ("kind 0 5 1", "kind 0 65 1", "tess sides 0 0\n", 5),
         (
+            tess,
+            PENTAGONS_TESS,
+            "0 0 0 0\n",
+            "0 0 0 0\njoin 0 0 0 0\n",
+            "tess line 4\n",
+            5,
+        ),
+        (
+            tess,
+            PENTAGONS_TESS,
+            "0 5 1",
+            "0 65 1",
+            "tess sides 0 0\n",
+            5,
+        ),
+        (
+            tess,
+            PENTAGONS_TESS,
             "1\nkind 0 5 1\n",
             "1\n\nkind 0 5 1 # one kind\n",
             "type 0 0\n",
             0,
         ),
-    ] {
-        let mut files = files(alloc, P54, old, new)?;
-        assert!(rt;
-            leads(alloc, &mut files, "kind x 0 -", line, code)?,
-            "{new}"
-        );
-    }
-    Ok(())
-}
-
-#[test]
-fn refuses_rules(rt: HostRuntime) -> Result<(), Fail> {
-    let alloc = rt.alloc();
-    for (old, new, line, code) in [
-        ("\"outer\":[0,1]", "\"outer\":[0,0]", "broken 7 2 4\n", 7),
-        ("1,2,\"L\"", "1,3,\"L\"", "broken 1 2 5\n", 7),
-        ("\"scale\":1", "\"scale\":\"1\"", "rules shape scale 0\n", 6),
-        ("}\n", "", "rules syntax\n", 6),
-        ("\"scale\":1", "\"scale\":0", "broken 1 0 0\n", 7),
-        ("\"roots\":[0]", "\"roots\":[1]", "broken 2 0 0\n", 7),
+        (check, rules, "r\":[0,1]", "r\":[0,0]", "broken 7 2 4\n", 7),
+        (check, rules, "1,2,\"L\"", "1,3,\"L\"", "broken 1 2 5\n", 7),
         (
-            "\"rank\":0}",
+            check,
+            rules,
+            "e\":1",
+            "e\":\"1\"",
+            "rules shape scale 0\n",
+            6,
+        ),
+        (check, rules, "}\n", "", "rules syntax\n", 6),
+        (check, rules, "e\":1", "e\":0", "broken 1 0 0\n", 7),
+        (check, rules, "s\":[0]", "s\":[1]", "broken 2 0 0\n", 7),
+        (
+            check,
+            rules,
+            corner,
             "\"rank\":0},{\"h\":[0,0,-1],\"outer\":[0,1],\"rank\":0}",
             "accepted 3 2\n",
             0,
         ),
         (
-            "\"rank\":0}",
+            check,
+            rules,
+            corner,
             "\"rank\":0},{\"h\":[0,0,0],\"outer\":[1,0],\"rank\":0}",
             "broken 12 1 0\n",
             7,
         ),
+        (
+            ranked,
+            HEPTAGONS_RULES,
+            "k\":1",
+            "k\":0",
+            "broken 12 1 0\n",
+            7,
+        ),
     ] {
-        let mut files = files(alloc, P54_RULES, old, new)?;
-        assert!(rt;
-            leads(alloc, &mut files, "check p54.tess x", line, code)?,
-            "{new}"
-        );
+        let x = changed(alloc, text, old, new)?;
+        assert!(rt; leads(alloc, words, &x, line, code)?, "{new}");
     }
+    Ok(())
+}
+
+#[test]
+fn files_are_cut_and_too_long(rt: HostRuntime) -> Result<(), Fail> {
+    let alloc = rt.alloc();
+    let begun = &PENTAGONS_RULES.as_bytes()[..40];
+    assert!(rt; leads(alloc, "check p54.tess x", begun, "rules syntax\n", 6)?);
+    let long = vec![in alloc; b' '; 1_048_577]?;
+    assert!(rt; leads(alloc, "kind x 0 -", &long, "file too long tess\n", 4)?);
+    Ok(())
+}
+
+#[test]
+fn words_are_read_or_not(rt: HostRuntime) -> Result<(), Fail> {
+    let alloc = rt.alloc();
+    let unreadable = words_read(alloc, Err(io::Error::from(io::ErrorKind::InvalidData)));
+    assert!(rt; unreadable.is_ok_and(|words| words.is_empty()));
+    let refused = words_read(alloc, Err(io::Error::from(io::ErrorKind::OutOfMemory)));
+    assert_eq!(rt; refused.err(), Some(Status::Memory));
     Ok(())
 }
 
@@ -174,7 +235,7 @@ fn answers_commands(rt: HostRuntime) -> Result<(), Fail> {
         ("\nnew 63\r\n\r\nat 63", "ok\nat - 0 0\n"),
         ("new 0\ngo 0 -\nat 0\r", "ok\nok\nbad\n"),
     ] {
-        let mut files = files(alloc, P54, "", "")?;
+        let mut files = files(alloc, b"")?;
         let mut input = MemSource::new(alloc, commands.as_bytes(), 7, &[])?;
         assert!(rt;
             ends(alloc, &mut files, SESSION, &mut input, replies, 0)?,
@@ -187,7 +248,7 @@ fn answers_commands(rt: HostRuntime) -> Result<(), Fail> {
 #[test]
 fn stops_at_a_fault(rt: HostRuntime) -> Result<(), Fail> {
     let alloc = rt.alloc();
-    let mut files = files(alloc, P54, "", "")?;
+    let mut files = files(alloc, b"")?;
     let mut input = MemSource::new(alloc, b"new 0\ngo 0 LXLX\nat 0\n", 10, &[2])?;
     assert!(rt; ends(alloc, &mut files, SESSION, &mut input, "ok\n", 12)?);
     Ok(())
@@ -197,7 +258,7 @@ fn stops_at_a_fault(rt: HostRuntime) -> Result<(), Fail> {
 fn measures_lines(rt: HostRuntime) -> Result<(), Fail> {
     let alloc = rt.alloc();
     for (count, reply) in [(8_192, "bad\n"), (8_193, "too long\n")] {
-        let mut files = files(alloc, P54, "", "")?;
+        let mut files = files(alloc, b"")?;
         let mut input = FillSource::new(b'x', count);
         assert!(rt;
             ends(alloc, &mut files, SESSION, &mut input, reply, 0)?,

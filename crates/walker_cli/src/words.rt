@@ -1,12 +1,19 @@
 //! The words of the program, and what they ask for.
-ghost use Rattle.std.specs.Prelude.{◌≡◌, ◌<◌, ◌^◌, ℕ, List, map, IfOk, IfSome, IfNone, IsErrOf, MatchResult, MatchOption};
+ghost use Rattle.std.specs.Prelude.{◌≡◌, ◌≢◌, ◌<◌, ◌^◌, ℕ, List, [], map, Ok, Err, IfOk, IfErr};
+ghost use Rattle.std.specs.Prelude.{IfSome, IfNone, IsErrOf, MatchResult, MatchOption};
+ghost use Rattle.std.specs.IoError.{error_kind};
 ghost use Rattle.std.specs.String.{string_bytes};
 ghost use Rattle.tile_model.specs.declared.Letter.{Letter};
-ghost use Rattle.walk_words.specs.Text.{walk_text};
-ghost use Rattle.walker_cli.specs.Tasks.{Task, RunSession, IsNumber, IsRunForm, Ask, HaveNoForm, AreNotOfRun};
+ghost use Rattle.tile_model.specs.WalkTexts.{walk_text};
+ghost use Rattle.short_numbers.specs.Numbers.{IsNumber};
+ghost use Rattle.walker_cli.specs.Tasks.{Task, RunSession, IsRunForm, Ask, HaveNoForm, AreNotOfRun};
 ghost use Rattle.walker_cli.specs.Forms.{task_of};
 
+use crate::status::Status;
+use short_numbers::read_number;
 use std::alloc::Global;
+use std::io;
+use std::io::ErrorKind;
 use thiserror::Error;
 use walk_words::{Walk, WalkFault, read_walk};
 
@@ -43,28 +50,40 @@ pub enum WordsFault {
     Memory,
 }
 
-/// The number that a text of one to nine digits writes, leading zeros allowed.
-fn number(text: &str) -> Option<u32>
-    ensures some { IfSome result (IsNumber text.now) }
-    ensures none { IfNone result ((n : ℕ) → IsNumber text.now n → ⊥) }
+/// The words of a call, after they were read or not. Words that are not UTF-8 are in no form, as no
+/// words are.
+///
+/// # Errors
+///
+/// `Memory` where there was no memory for them.
+pub fn words_read(alloc: Global, read: io::Result<Vec<String>>) -> Result<Vec<String>, Status>
+    ensures words { IfOk read (λ words. result ≡ Ok words) }
+    ensures memory { IfErr read
+        (λ e. error_kind e ≡ ErrorKind.OutOfMemory → result ≡ Err Status.Memory) }
+    ensures unreadable { IfErr read (λ e. error_kind e ≢ ErrorKind.OutOfMemory
+        → MatchResult result (λ words. words.items ≡ []) (λ _. ⊥)) }
 {
-    let bytes = text.as_bytes();
-    if bytes.is_empty() || bytes.len() > 9 {
-        return None;
+    let fault = match read {
+        Ok(words) => return Ok(words),
+        Err(fault) => fault,
+    };
+    if fault.kind() == ErrorKind::OutOfMemory {
+        return Err(Status::Memory);
     }
-    if bytes[0] == b'+' {
-        return None;
-    }
-    text.parse::<u32>().ok()
+    Ok(Vec::new(alloc))
 }
 
 /// The kind and the walk that two words of the form `kind` write.
 fn read_start(alloc: Global, k: &str, letters: &str) -> Result<(u32, Walk), WordsFault>
     ensures ok { IfOk result (λ start. IsNumber k.now start.0 × (walk_text start.1 ≡ letters.now)) }
-    ensures usage { IsErrOf result WordsFault.Usage → (n : ℕ) (walk : List Letter) → IsNumber k.now n → walk_text walk ≡ letters.now → ⊥ }
-    ensures complete { (n : ℕ) (walk : List Letter) → IsNumber k.now n → walk_text walk ≡ letters.now → MatchResult result (λ start. (start.0 ≡ n) × (start.1 ≡ walk)) (λ e. e ≡ WordsFault.Memory) }
+    ensures usage { IsErrOf result WordsFault.Usage → (n : ℕ) (walk : List Letter)
+        → IsNumber k.now n → walk_text walk ≡ letters.now → ⊥ }
+    ensures complete { (n : ℕ) (walk : List Letter)
+        → IsNumber k.now n → walk_text walk ≡ letters.now
+        → MatchResult result
+        (λ start. (start.0 ≡ n) × (start.1 ≡ walk)) (λ e. e ≡ WordsFault.Memory) }
 {
-    let Some(kind) = number(k) else {
+    let Some(kind) = read_number(k.as_bytes()) else {
         return Err(WordsFault::Usage);
     };
     match read_walk(alloc, letters.as_bytes()) {
@@ -78,7 +97,8 @@ fn read_start(alloc: Global, k: &str, letters: &str) -> Result<(u32, Walk), Word
 pub fn read_words<'a>(alloc: Global, words: &'a [String]) -> Result<Form<'a>, WordsFault>
     ensures ok { IfOk result (λ form. Ask (map string_bytes words.now) (task_of form)) }
     ensures usage { IsErrOf result WordsFault.Usage → HaveNoForm (map string_bytes words.now) }
-    ensures complete { (task : Task) → Ask (map string_bytes words.now) task → MatchResult result (λ form. task_of form ≡ task) (λ e. e ≡ WordsFault.Memory) }
+    ensures complete { (task : Task) → Ask (map string_bytes words.now) task
+        → MatchResult result (λ form. task_of form ≡ task) (λ e. e ≡ WordsFault.Memory) }
 {
     match words {
         [form, tess, k, letters] if form.as_str() == "kind" => {
@@ -106,7 +126,9 @@ pub fn read_words<'a>(alloc: Global, words: &'a [String]) -> Result<Form<'a>, Wo
 fn read_run<'a>(words: &'a [String]) -> Option<Form<'a>>
     ensures some { IfSome result (λ form. Ask (map string_bytes words.now) (task_of form)) }
     ensures none { IfNone result (AreNotOfRun (map string_bytes words.now)) }
-    ensures complete { (tess : List ℕ) (k : ℕ) (rules : List ℕ) → IsRunForm (map string_bytes words.now) tess k rules → MatchOption result ⊥ (λ form. task_of form ≡ RunSession tess k rules) }
+    ensures complete { (tess : List ℕ) (k : ℕ) (rules : List ℕ)
+        → IsRunForm (map string_bytes words.now) tess k rules
+        → MatchOption result ⊥ (λ form. task_of form ≡ RunSession tess k rules) }
 {
     let [form, tess, k, option, rules] = words else {
         return None;
@@ -114,7 +136,7 @@ fn read_run<'a>(words: &'a [String]) -> Option<Form<'a>>
     if form.as_str() != "run" || option.as_str() != "--rules" {
         return None;
     }
-    let kind = number(k.as_str())?;
+    let kind = read_number(k.as_str().as_bytes())?;
     Some(Form::Run {
         tess: tess.as_str(),
         kind,

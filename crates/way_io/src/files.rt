@@ -1,5 +1,6 @@
 // Files that are fetched and stored whole, by their names.
-ghost use Rattle.std.specs.Prelude.{◌≡◌, ◌≤◌, ◌<◌, ◌⊎◌, ℕ, List, Bool, length, IfOk, OnOk, IsTrue, IsErrOf, Some, None, Option};
+ghost use Rattle.std.specs.Prelude.{◌≡◌, ◌≤◌, ◌<◌, ◌⊎◌, ℕ, List, Bool, length, IfOk, OnOk, IsTrue};
+ghost use Rattle.std.specs.Prelude.{IsErrOf, Some, None, Option};
 ghost use Rattle.way_io.specs.Counts.{Rose};
 ghost use Rattle.way_io.specs.Contents.{KeepsAll, KeepsOthers, IsLonger};
 
@@ -61,10 +62,11 @@ pub trait Files {
     /// What the file of a name holds, if there is one, where it is told.
     ghost contents: { Self → List ℕ → Option (List ℕ) };
 
-    /// How often a fetch has failed. Nothing else is counted.
+    /// How often fetching has failed. Files that try again may count a try that failed and still
+    /// give the file. Nothing else is counted.
     ghost fetch_faults: { Self → ℕ };
 
-    /// How often a store has failed. Nothing else is counted.
+    /// How often storing has failed, in the same way. Nothing else is counted.
     ghost store_faults: { Self → ℕ };
 
     /// The bytes of the file `name`, which are at most `limit`. No file changes.
@@ -77,8 +79,6 @@ pub trait Files {
         ensures later { fetch_faults self.old ≤ fetch_faults self.new }
         ensures cause { IsErrOf result FetchFault.Failed
             → Rose (fetch_faults self.old) (fetch_faults self.new) }
-        ensures uncounted { ¬ IsErrOf result FetchFault.Failed
-            → fetch_faults self.new ≡ fetch_faults self.old }
         ensures other_count { store_faults self.new ≡ store_faults self.old }
         ensures within { IfOk result (λ bytes. length bytes.items ≤ limit) }
         ensures content { IsTrue tells
@@ -103,8 +103,6 @@ pub trait Files {
         ensures later { store_faults self.old ≤ store_faults self.new }
         ensures cause { IsErrOf result StoreFault.Failed
             → Rose (store_faults self.old) (store_faults self.new) }
-        ensures uncounted { ¬ IsErrOf result StoreFault.Failed
-            → store_faults self.new ≡ store_faults self.old }
         ensures other_count { fetch_faults self.new ≡ fetch_faults self.old }
         ensures content { IsTrue tells → OnOk result (contents self.new name.now ≡ Some bytes.now) }
         ensures others { IsTrue tells

@@ -30,7 +30,8 @@ impl Source for FillSource {
     fn read(&mut self, buf: &mut [u8]) -> Result<usize, ReadFault>
         ensures succeeds { IsOk result }
         ensures count { IfOk result (λ n. n ≡ min (length buf.new) (length (fill_left self.old))) }
-        ensures next { IfOk result (λ n. fill_left self.old ≡ take n buf.new ++ fill_left self.new) }
+        ensures next { IfOk result
+            (λ n. fill_left self.old ≡ take n buf.new ++ fill_left self.new) }
     {
         let count = self.count.min(buf.len() as u64) as usize;
         buf[..count].fill(self.byte);

@@ -1,5 +1,6 @@
 // Files in memory.
-ghost use Rattle.std.specs.Prelude.{◌≡◌, ◌↔◌, ◌≤◌, ◌<◌, ◌⊎◌, List, ℕ, true, length, IfOk, OnOk, OnErr, IsErrOf, IsTrue, Some, None, option_copied};
+ghost use Rattle.std.specs.Prelude.{◌≡◌, ◌↔◌, ◌≤◌, ◌<◌, ◌⊎◌, List, ℕ, true, length, IfOk, OnOk};
+ghost use Rattle.std.specs.Prelude.{OnErr, IsErrOf, IsTrue, Some, None, option_copied};
 ghost use Rattle.way_io.specs.Counts.{counted};
 ghost use Rattle.way_io.specs.Calls.{no_calls, one_more, next_fails};
 ghost use Rattle.way_io.specs.Contents.{KeepsAll, KeepsOthers, IsLonger};
@@ -90,7 +91,8 @@ impl Files for MemFiles {
         ensures content { IfOk result (λ bytes. contents_of self.old name.now ≡ Some bytes.items) }
         ensures too_long { IsErrOf result FetchFault.TooLong
             → IsLonger (contents_of self.old) name.now limit }
-        ensures longer { (bytes : List ℕ) → contents_of self.old name.now ≡ Some bytes → limit < length bytes
+        ensures longer { (bytes : List ℕ) → contents_of self.old name.now ≡ Some bytes
+            → limit < length bytes
             → IsErrOf result FetchFault.TooLong ⊎ IsErrOf result FetchFault.Failed }
         ensures same { KeepsAll (contents_of self.old) (contents_of self.new) }
         ensures calls { calls_of self.new ≡ one_more (calls_of self.old) }

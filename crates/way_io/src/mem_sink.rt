@@ -1,5 +1,6 @@
 // A sink in memory.
-ghost use Rattle.std.specs.Prelude.{◌≡◌, ◌+◌, ◌≤◌, ◌<◌, ◌==◌, ◌||◌, ◌++◌, [], true, length, take, min, is_err, if◌then◌else◌, IfOk, OnErr};
+ghost use Rattle.std.specs.Prelude.{◌≡◌, ◌+◌, ◌≤◌, ◌<◌, ◌==◌, ◌||◌, ◌++◌, [], true, length, take};
+ghost use Rattle.std.specs.Prelude.{min, is_err, if◌then◌else◌, IfOk, OnErr};
 ghost use Rattle.std.specs.Vec.{vec_len, vec_capacity};
 ghost use Rattle.way_io.specs.Counts.{counted};
 ghost use Rattle.way_io.specs.Calls.{no_calls, one_more, next_fails};
@@ -24,7 +25,13 @@ impl Model for MemSink {
     ghost Value = { SinkState };
 
     ghost view = { λ s.
-        record { taken = s.bytes.items; room = s.room; step = s.step; calls = s.calls; faults = s.faults } };
+        record {
+          taken = s.bytes.items;
+          room = s.room;
+          step = s.step;
+          calls = s.calls;
+          faults = s.faults;
+        } };
 
     ghost invariant = { λ s. (vec_len s.bytes + s.room ≤ vec_capacity s.bytes) × (1 ≤ s.step) };
 }
@@ -38,8 +45,13 @@ impl MemSink {
     /// `AllocError` where there is no memory for `room` bytes and the copy of `failing`.
     pub fn new(alloc: Global, room: u32, step: u32, failing: &[u32]) -> Result<MemSink, AllocError>
         requires { 1 ≤ step }
-        ensures { IfOk result (λ sink.
-            sink ≡ record { taken = []; room = room; step = step; calls = no_calls failing.now; faults = 0 }) }
+        ensures { IfOk result (λ sink. sink ≡ record {
+          taken = [];
+          room = room;
+          step = step;
+          calls = no_calls failing.now;
+          faults = 0;
+        }) }
     {
         Ok(MemSink {
             bytes: Vec::with_capacity(alloc, room as usize)?,
@@ -68,7 +80,8 @@ impl Sink for MemSink {
     // A write fails where its number stands among those that fail, and where no room is left.
     fn write(&mut self, bytes: &[u8]) -> Result<usize, WriteFault>
         ensures fails { is_err result ≡ (next_fails self.old.calls || self.old.room == 0) }
-        ensures count { IfOk result (λ n. n ≡ min (min (length bytes.now) self.old.room) self.old.step) }
+        ensures count { IfOk result
+            (λ n. n ≡ min (min (length bytes.now) self.old.room) self.old.step) }
         ensures some { 0 < length bytes.now → IfOk result (λ n. 0 < n) }
         ensures appended { IfOk result (λ n. self.new.taken ≡ self.old.taken ++ take n bytes.now) }
         ensures room { IfOk result (λ n. self.old.room ≡ self.new.room + n) }

@@ -1,5 +1,6 @@
 // A source over bytes in memory.
-ghost use Rattle.std.specs.Prelude.{◌≡◌, ◌≤◌, ◌<◌, ◌↔◌, ◌++◌, [], true, length, take, drop, min, is_err, if◌then◌else◌, IfOk, OnErr};
+ghost use Rattle.std.specs.Prelude.{◌≡◌, ◌≤◌, ◌<◌, ◌↔◌, ◌++◌, [], true, length, take, drop, min};
+ghost use Rattle.std.specs.Prelude.{is_err, if◌then◌else◌, IfOk, OnErr};
 ghost use Rattle.way_io.specs.Counts.{counted};
 ghost use Rattle.way_io.specs.Calls.{no_calls, one_more, next_fails};
 ghost use Rattle.way_io.specs.InMemory.{SourceState};
@@ -23,7 +24,12 @@ impl Model for MemSource {
     ghost Value = { SourceState };
 
     ghost view = { λ s.
-        record { left = drop s.at s.bytes.items; step = s.step; calls = s.calls; faults = s.faults } };
+        record {
+          left = drop s.at s.bytes.items;
+          step = s.step;
+          calls = s.calls;
+          faults = s.faults;
+        } };
 
     ghost invariant = { λ s. (s.at ≤ length s.bytes.items) × (1 ≤ s.step) };
 }
@@ -42,8 +48,12 @@ impl MemSource {
         failing: &[u32],
     ) -> Result<MemSource, AllocError>
         requires { 1 ≤ step }
-        ensures { IfOk result (λ source.
-            source ≡ record { left = bytes.now; step = step; calls = no_calls failing.now; faults = 0 }) }
+        ensures { IfOk result (λ source. source ≡ record {
+          left = bytes.now;
+          step = step;
+          calls = no_calls failing.now;
+          faults = 0;
+        }) }
     {
         Ok(MemSource {
             bytes: bytes.to_vec(alloc)?,
@@ -64,7 +74,8 @@ impl Source for MemSource {
 
     fn read(&mut self, buf: &mut [u8]) -> Result<usize, ReadFault>
         ensures fails { is_err result ≡ next_fails self.old.calls }
-        ensures count { IfOk result (λ n. n ≡ min (min (length self.old.left) (length buf.new)) self.old.step) }
+        ensures count { IfOk result
+            (λ n. n ≡ min (min (length self.old.left) (length buf.new)) self.old.step) }
         ensures next { IfOk result (λ n. self.old.left ≡ take n buf.new ++ self.new.left) }
         ensures end { 0 < length buf.new → IfOk result (λ n. (n ≡ 0) ↔ (self.old.left ≡ [])) }
         ensures kept { OnErr result (self.new.left ≡ self.old.left) }

@@ -1,5 +1,6 @@
 // Where bytes go to.
-ghost use Rattle.std.specs.Prelude.{◌≡◌, ◌≤◌, ◌<◌, ◌++◌, ℕ, List, Bool, length, take, IfOk, OnOk, OnErr, IsTrue};
+ghost use Rattle.std.specs.Prelude.{◌≡◌, ◌≤◌, ◌<◌, ◌++◌, ℕ, List, Bool, length, take, IfOk, OnOk};
+ghost use Rattle.std.specs.Prelude.{OnErr, IsTrue};
 ghost use Rattle.way_io.specs.Counts.{Rose};
 ghost use Rattle.way_io.specs.Pieces.{AppendsPrefix};
 
@@ -18,7 +19,8 @@ pub trait Sink {
     /// The bytes that were taken, where they are told.
     ghost taken: { Self → List ℕ };
 
-    /// How often a write has failed. Nothing else is counted.
+    /// How often writing has failed. A sink that tries again may count a try that failed and still
+    /// take bytes. Nothing else is counted.
     ghost faults: { Self → ℕ };
 
     /// Takes the first bytes of a piece, and says how many they are: at least one, unless the
@@ -34,7 +36,6 @@ pub trait Sink {
         ensures appended { IsTrue tells
             → IfOk result (λ n. taken self.new ≡ taken self.old ++ take n bytes.now) }
         ensures kept { IsTrue tells → OnErr result (taken self.new ≡ taken self.old) }
-        ensures uncounted { OnOk result (faults self.new ≡ faults self.old) }
         ensures later { faults self.old ≤ faults self.new }
         ensures cause { OnErr result (Rose (faults self.old) (faults self.new)) };
 }
@@ -47,7 +48,6 @@ pub trait Sink {
 pub fn write_piece<S: Sink>(out: &mut S, bytes: &[u8]) -> Result<(), WriteFault>
     ensures whole { IsTrue S.tells → OnOk result (S.taken out.new ≡ S.taken out.old ++ bytes.now) }
     ensures prefix { IsTrue S.tells → AppendsPrefix (S.taken out.old) (S.taken out.new) bytes.now }
-    ensures uncounted { OnOk result (S.faults out.new ≡ S.faults out.old) }
     ensures later { S.faults out.old ≤ S.faults out.new }
     ensures cause { OnErr result (Rose (S.faults out.old) (S.faults out.new)) }
 {

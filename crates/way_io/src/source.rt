@@ -1,5 +1,6 @@
 // Where bytes come from.
-ghost use Rattle.std.specs.Prelude.{◌≡◌, ◌≤◌, ◌<◌, ◌++◌, ◌↔◌, [], ℕ, List, Bool, length, take, IfOk, OnOk, OnErr, IsTrue};
+ghost use Rattle.std.specs.Prelude.{◌≡◌, ◌≤◌, ◌<◌, ◌++◌, ◌↔◌, [], ℕ, List, Bool, length, take};
+ghost use Rattle.std.specs.Prelude.{IfOk, OnErr, IsTrue};
 ghost use Rattle.way_io.specs.Counts.{Rose};
 
 use thiserror::Error;
@@ -17,7 +18,8 @@ pub trait Source {
     /// The bytes that are left, where they are told.
     ghost left: { Self → List ℕ };
 
-    /// How often a read has failed. Nothing else is counted.
+    /// How often reading has failed. A source that tries again may count a try that failed and
+    /// still give bytes. Nothing else is counted.
     ghost faults: { Self → ℕ };
 
     /// Reads the next bytes into the start of `buf`, and says how many they are. `Ok(0)` on a
@@ -34,7 +36,6 @@ pub trait Source {
         ensures end { IsTrue tells → 0 < length buf.new
             → IfOk result (λ n. (n ≡ 0) ↔ (left self.old ≡ [])) }
         ensures kept { IsTrue tells → OnErr result (left self.new ≡ left self.old) }
-        ensures uncounted { OnOk result (faults self.new ≡ faults self.old) }
         ensures later { faults self.old ≤ faults self.new }
         ensures cause { OnErr result (Rose (faults self.old) (faults self.new)) };
 }

@@ -3,9 +3,8 @@ use crate::{
     FetchFault, Files, FillSource, HostFiles, MemFiles, MemSink, MemSource, ReadFault, Sink,
     Source, StdSink, StdSource, StoreFault, WriteFault, write_piece,
 };
-use std::alloc::Allocator;
 use std::io;
-use std::io::{BufRead, Cursor, Input, Lines};
+use std::io::Cursor;
 use std::test::Fail;
 
 #[test]
@@ -113,28 +112,9 @@ fn the_machine_keeps_a_file(rt: HostRuntime) -> Result<(), Fail> {
     Ok(())
 }
 
-// A runtime whose standard input is a few bytes.
-struct Typed;
-
-impl Input for Typed {
-    type Reader = Cursor<[u8; 5]>;
-
-    fn read_line<A: Allocator + Clone>(&self, buf: &mut String<A>) -> io::Result<usize> {
-        self.reader().read_line(buf)
-    }
-
-    fn lines<A: Allocator>(&self, alloc: A) -> Lines<Cursor<[u8; 5]>, A> {
-        self.reader().lines(alloc)
-    }
-
-    fn reader(&self) -> Cursor<[u8; 5]> {
-        Cursor::new(*b"new 0")
-    }
-}
-
 #[test]
 fn standard_input_is_read_to_its_end(rt: HostRuntime) -> Result<(), Fail> {
-    let mut source = StdSource::new(&Typed);
+    let mut source = StdSource::new(Cursor::new(*b"new 0"));
     let mut buf = [0u8; 3];
     assert_eq!(rt; source.read(&mut buf), Ok(3));
     assert_eq!(rt; buf.as_slice(), b"new".as_slice());
@@ -147,7 +127,10 @@ fn standard_input_is_read_to_its_end(rt: HostRuntime) -> Result<(), Fail> {
 #[test]
 fn standard_output_is_reached(rt: HostRuntime) -> Result<(), Fail> {
     assert_eq!(rt;
-        write_piece(&mut StdSink::new(&rt), b"standard output is reached\n"),
+        write_piece(
+            &mut StdSink::new(io::writer(&rt)),
+            b"standard output is reached\n"
+        ),
         Ok(())
     );
     Ok(())

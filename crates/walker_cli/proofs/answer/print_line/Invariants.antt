@@ -1,5 +1,5 @@
 use Rattle.std.proofs.Common.{◌≡◌, ◌++◌, drop}
-use Rattle.walker_cli.specs.Lines.{numbers_text, numbered}
+use Rattle.walker_cli.specs.StatusLines.{numbers_text, numbered}
 use Rattle.walker_cli.proofs.answer.print_line.Given as goal
 
 abbrev pub invariant-loop-n : goal.invariant-loop-n

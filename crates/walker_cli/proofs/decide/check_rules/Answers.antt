@@ -4,44 +4,47 @@ use Rattle.structure_check.specs.Rules.{TreeRules}
 use Rattle.walker_cli.specs.declared.answer.Answer.{Answer}
 use Rattle.walker_cli.specs.Tasks.{CheckRules}
 use Rattle.walker_cli.specs.Held.{Loaded, Refused}
-use Rattle.walker_cli.specs.Due.{IsDue, no_tess, no_rules, rules_accepted}
-use Rattle.walker_cli.proofs.Deciding.{refusal_due, check_row, check_unread, check_failed, check_passed, rules_kept, read_kept}
+use Rattle.walker_cli.specs.declared.answer.Role.{Role}
+use Rattle.walker_cli.specs.Due.{CheckRow, check_no_tess, check_no_rules, check_accepted, FetchesFor}
+use Rattle.walker_cli.proofs.Deciding.{refusal_fits, check_unread, check_failed, check_passed, rules_kept, read_kept}
 use Rattle.walker_cli.proofs.decide.check_rules.Goals as goal
 
 pub returns-in-Err-clause-due : goal.returns-in-Err-clause-due
-returns-in-Err-clause-due g c = λ told words ask.
-    refusal_due _ c.in-Err.refusal (λ answer is. no_tess (CheckRules c.args.tess.now c.args.rules.now) answer ask (c.in-Err.ensures.refused told answer (ap Err is)))
+returns-in-Err-clause-due g c = λ told.
+    refusal_fits (g.F.Files.contents c.args.files.now) (CheckRules c.args.tess.now c.args.rules.now) c.in-Err.refusal (λ answer is. (check_no_tess answer (c.in-Err.ensures.refused told answer (ap Err is))))
+    (λ role is. subst (λ (r : Role). FetchesFor (g.F.Files.contents c.args.files.now) (CheckRules c.args.tess.now c.args.rules.now) r) (sym (c.in-Err.ensures.role role (ap Err is))) tt)
 
 pub returns-in-Err-clause-exact : goal.returns-in-Err-clause-exact
-returns-in-Err-clause-exact g c = λ told words answer ask due.
+returns-in-Err-clause-exact g c = λ told answer row.
     check_unread {T = List TileKind} _ c.args.tess.now c.args.rules.now (λ t. t) c.in-Err.refusal
     (record { too_long = c.in-Err.ensures.too_long told; bad_line = c.in-Err.ensures.bad_line told; bad_kinds = c.in-Err.ensures.bad_kinds told; loaded = c.in-Err.ensures.loaded told })
-    (check_row _ c.args.tess.now c.args.rules.now ask due)
+    row
 
 pub returns-in-Err-load_rules-clause-due : goal.returns-in-Err-load_rules-clause-due
-returns-in-Err-load_rules-clause-due g c = λ told words ask.
-    refusal_due _ c.in-Err-load_rules.refusal (λ answer is.
-    no_rules c.args.tess.now c.args.rules.now c.in-Ok.tess answer ask (c.in-Ok.ensures.ok told)
-    (rules_kept (c.in-Ok.ensures.same told) c.in-Ok.tess c.args.rules.now (Refused answer) (c.in-Err-load_rules.ensures.refused told answer (ap Err is))))
+returns-in-Err-load_rules-clause-due g c = λ told.
+    refusal_fits (g.F.Files.contents c.args.files.now) (CheckRules c.args.tess.now c.args.rules.now) c.in-Err-load_rules.refusal (λ answer is.
+    (check_no_rules c.in-Ok.tess answer (c.in-Ok.ensures.ok told)
+    (rules_kept (c.in-Ok.ensures.same told) c.in-Ok.tess c.args.rules.now (Refused answer) (c.in-Err-load_rules.ensures.refused told answer (ap Err is)))))
+    (λ role is. subst (λ (r : Role). FetchesFor (g.F.Files.contents c.args.files.now) (CheckRules c.args.tess.now c.args.rules.now) r) (sym (c.in-Err-load_rules.ensures.role role (ap Err is))) (c.in-Ok.tess, c.in-Ok.ensures.ok told))
 
 pub returns-in-Err-load_rules-clause-exact : goal.returns-in-Err-load_rules-clause-exact
-returns-in-Err-load_rules-clause-exact g c = λ told words answer ask due.
+returns-in-Err-load_rules-clause-exact g c = λ told answer row.
     check_failed _ c.args.tess.now c.args.rules.now (λ (t : List TileKind). t) c.in-Ok.tess (λ (r : TreeRules). r.automaton) c.in-Err-load_rules.refusal
     (record { too_long = c.in-Ok.ensures.too_long told; bad_line = c.in-Ok.ensures.bad_line told; bad_kinds = c.in-Ok.ensures.bad_kinds told; loaded = c.in-Ok.ensures.loaded told })
     (read_kept (c.in-Ok.ensures.same told) c.in-Ok.tess c.args.rules.now (λ (r : TreeRules). r.automaton) (Err c.in-Err-load_rules.refusal)
     (record { too_long = c.in-Err-load_rules.ensures.too_long told; no_text = c.in-Err-load_rules.ensures.no_text told; misshapen = c.in-Err-load_rules.ensures.misshapen told; broken = c.in-Err-load_rules.ensures.broken told; loaded = c.in-Err-load_rules.ensures.loaded told }))
-    (check_row _ c.args.tess.now c.args.rules.now ask due)
+    row
 
 pub returns-clause-due : goal.returns-clause-due
-returns-clause-due g c = λ told words ask.
-    subst (λ (a : Answer). IsDue (record { words = words; contents = g.F.Files.contents c.args.files.now }) a) (sym c.accepted.ensures)
-    (rules_accepted c.args.tess.now c.args.rules.now c.in-Ok.tess c.in-Ok-load_rules.rules.automaton ask (c.in-Ok.ensures.ok told)
+returns-clause-due g c = λ told.
+    subst (λ (a : Answer). CheckRow (g.F.Files.contents c.args.files.now) c.args.tess.now c.args.rules.now a) (sym c.accepted.ensures)
+    (check_accepted c.in-Ok.tess c.in-Ok-load_rules.rules.automaton (c.in-Ok.ensures.ok told)
     (rules_kept (c.in-Ok.ensures.same told) c.in-Ok.tess c.args.rules.now (Loaded c.in-Ok-load_rules.rules.automaton) (c.in-Ok-load_rules.ensures.ok told)))
 
 pub returns-clause-exact : goal.returns-clause-exact
-returns-clause-exact g c = λ told words answer ask due.
+returns-clause-exact g c = λ told answer row.
     c.accepted.ensures ∙ check_passed _ c.args.tess.now c.args.rules.now (λ (t : List TileKind). t) c.in-Ok.tess (λ (r : TreeRules). r.automaton) c.in-Ok-load_rules.rules
     (record { too_long = c.in-Ok.ensures.too_long told; bad_line = c.in-Ok.ensures.bad_line told; bad_kinds = c.in-Ok.ensures.bad_kinds told; loaded = c.in-Ok.ensures.loaded told })
     (read_kept (c.in-Ok.ensures.same told) c.in-Ok.tess c.args.rules.now (λ (r : TreeRules). r.automaton) (Ok c.in-Ok-load_rules.rules)
     (record { too_long = c.in-Ok-load_rules.ensures.too_long told; no_text = c.in-Ok-load_rules.ensures.no_text told; misshapen = c.in-Ok-load_rules.ensures.misshapen told; broken = c.in-Ok-load_rules.ensures.broken told; loaded = c.in-Ok-load_rules.ensures.loaded told }))
-    (check_row _ c.args.tess.now c.args.rules.now ask due)
+    row

@@ -1,92 +1,101 @@
-use Rattle.std.proofs.Common.{◌<◌, ◌≤◌, List, Err, Ok, length, rules, ◌∙◌, ap}
+use Rattle.std.proofs.Common.{refl, subst, sym, ◌<◌, ◌≤◌, List, Err, Ok, length, rules, ◌∙◌, ap}
 use Rattle.tile_model.specs.Tessellations.{TileKind}
 use Rattle.structure_check.specs.Rules.{TreeRules}
 use Rattle.walker_cli.specs.Tasks.{RunSession}
 use Rattle.walker_cli.specs.Held.{Loaded, Refused}
-use Rattle.walker_cli.specs.Due.{no_tess, no_kind, no_session}
-use Rattle.walker_cli.proofs.Deciding.{refusal_due, rules_kept, read_kept}
-use Rattle.walker_cli.proofs.Sessions.{session_row, session_unread, session_missing, session_failed, session_opened, opens, served_unread, served_missing, served_failed, served_opened, session_due}
+use Rattle.walker_cli.specs.declared.answer.Role.{Role}
+use Rattle.walker_cli.specs.Due.{session_no_tess, session_no_kind, session_no_rules, FetchesFor}
+use Rattle.walker_cli.specs.Loading.{ServesFor}
+use Rattle.walker_cli.proofs.Deciding.{outside_serves, refusal_fits, rules_kept, read_kept}
+use Rattle.walker_cli.proofs.Sessions.{session_unread, session_missing, session_failed, session_opened, served_unread, served_missing, served_failed, served_opened}
 use Rattle.walker_cli.proofs.decide.open_session.Goals as goal
 
 pub returns-in-Err-clause-due : goal.returns-in-Err-clause-due
-returns-in-Err-clause-due g c = λ told words ask.
-    refusal_due _ c.in-Err.refusal (λ answer is. no_tess (RunSession c.args.tess.now c.args.kind c.args.rules.now) answer ask (c.in-Err.ensures.refused told answer (ap Err is)))
+returns-in-Err-clause-due g c = λ told.
+    refusal_fits (g.F.Files.contents c.args.files.now) (RunSession c.args.tess.now c.args.kind c.args.rules.now) c.in-Err.refusal (λ answer is. (session_no_tess answer (c.in-Err.ensures.refused told answer (ap Err is))))
+    (λ role is. subst (λ (r : Role). FetchesFor (g.F.Files.contents c.args.files.now) (RunSession c.args.tess.now c.args.kind c.args.rules.now) r) (sym (c.in-Err.ensures.role role (ap Err is))) tt)
 
 pub returns-in-Err-clause-exact : goal.returns-in-Err-clause-exact
-returns-in-Err-clause-exact g c = λ told words answer ask due.
+returns-in-Err-clause-exact g c = λ told answer row.
     session_unread {T = List TileKind} _ c.args.tess.now c.args.kind c.args.rules.now (λ t. t) c.in-Err.refusal
     (record { too_long = c.in-Err.ensures.too_long told; bad_line = c.in-Err.ensures.bad_line told; bad_kinds = c.in-Err.ensures.bad_kinds told; loaded = c.in-Err.ensures.loaded told })
-    (session_row _ c.args.tess.now c.args.kind c.args.rules.now ask due)
+    row
 
 pub returns-in-Err-clause-serves : goal.returns-in-Err-clause-serves
-returns-in-Err-clause-serves g c = λ told words kinds a k ask serves.
-    served_unread {T = List TileKind} _ c.args.tess.now c.args.kind c.args.rules.now kinds a k (λ t. t) c.in-Err.refusal
+returns-in-Err-clause-serves g c = λ told kinds a k serves.
+    outside_serves kinds a k c.in-Err.refusal
+    (served_unread {T = List TileKind} _ c.args.tess.now c.args.kind c.args.rules.now kinds a k (λ t. t) c.in-Err.refusal
     (record { too_long = c.in-Err.ensures.too_long told; bad_line = c.in-Err.ensures.bad_line told; bad_kinds = c.in-Err.ensures.bad_kinds told; loaded = c.in-Err.ensures.loaded told })
-    (opens _ c.args.tess.now c.args.kind c.args.rules.now kinds a k ask serves)
+    serves)
 
 pub returns-then-kind-from-clause-due : goal.returns-then-kind-from-clause-due
-returns-then-kind-from-clause-due g c = λ told words ask.
+returns-then-kind-from-clause-due g c = λ told.
     let few : length c.in-Ok.tess ≤ c.args.kind = search rules in
-    no_kind (RunSession c.args.tess.now c.args.kind c.args.rules.now) c.in-Ok.tess ask (c.in-Ok.ensures.ok told) few
+    (session_no_kind c.in-Ok.tess (c.in-Ok.ensures.ok told) few)
 
 pub returns-then-kind-from-clause-exact : goal.returns-then-kind-from-clause-exact
-returns-then-kind-from-clause-exact g c = λ told words answer ask due.
+returns-then-kind-from-clause-exact g c = λ told answer row.
     let few : length c.in-Ok.tess ≤ c.args.kind = search rules in
     session_missing _ c.args.tess.now c.args.kind c.args.rules.now (λ (t : List TileKind). t) c.in-Ok.tess
     (record { too_long = c.in-Ok.ensures.too_long told; bad_line = c.in-Ok.ensures.bad_line told; bad_kinds = c.in-Ok.ensures.bad_kinds told; loaded = c.in-Ok.ensures.loaded told })
-    few (session_row _ c.args.tess.now c.args.kind c.args.rules.now ask due)
+    few row
 
 pub returns-then-kind-from-clause-serves : goal.returns-then-kind-from-clause-serves
-returns-then-kind-from-clause-serves g c = λ told words kinds a k ask serves.
+returns-then-kind-from-clause-serves g c = λ told kinds a k serves.
     let few : length c.in-Ok.tess ≤ c.args.kind = search rules in
     served_missing _ c.args.tess.now c.args.kind c.args.rules.now kinds a k (λ (t : List TileKind). t) c.in-Ok.tess
     (record { too_long = c.in-Ok.ensures.too_long told; bad_line = c.in-Ok.ensures.bad_line told; bad_kinds = c.in-Ok.ensures.bad_kinds told; loaded = c.in-Ok.ensures.loaded told })
-    few (opens _ c.args.tess.now c.args.kind c.args.rules.now kinds a k ask serves)
+    few serves
 
 pub returns-in-Err-load_rules-clause-due : goal.returns-in-Err-load_rules-clause-due
-returns-in-Err-load_rules-clause-due g c = λ told words ask.
+returns-in-Err-load_rules-clause-due g c = λ told.
     let lt : c.args.kind < length c.in-Ok.tess = search rules in
-    refusal_due _ c.in-Err-load_rules.refusal (λ answer is.
-    no_session c.args.tess.now c.args.kind c.args.rules.now c.in-Ok.tess answer ask (c.in-Ok.ensures.ok told) lt
-    (rules_kept (c.in-Ok.ensures.same told) c.in-Ok.tess c.args.rules.now (Refused answer) (c.in-Err-load_rules.ensures.refused told answer (ap Err is))))
+    refusal_fits (g.F.Files.contents c.args.files.now) (RunSession c.args.tess.now c.args.kind c.args.rules.now) c.in-Err-load_rules.refusal (λ answer is.
+    (session_no_rules c.in-Ok.tess answer (c.in-Ok.ensures.ok told) lt
+    (rules_kept (c.in-Ok.ensures.same told) c.in-Ok.tess c.args.rules.now (Refused answer) (c.in-Err-load_rules.ensures.refused told answer (ap Err is)))))
+    (λ role is. subst (λ (r : Role). FetchesFor (g.F.Files.contents c.args.files.now) (RunSession c.args.tess.now c.args.kind c.args.rules.now) r) (sym (c.in-Err-load_rules.ensures.role role (ap Err is))) (c.in-Ok.tess, c.in-Ok.ensures.ok told, lt))
 
 pub returns-in-Err-load_rules-clause-exact : goal.returns-in-Err-load_rules-clause-exact
-returns-in-Err-load_rules-clause-exact g c = λ told words answer ask due.
+returns-in-Err-load_rules-clause-exact g c = λ told answer row.
     let lt : c.args.kind < length c.in-Ok.tess = search rules in
     session_failed _ c.args.tess.now c.args.kind c.args.rules.now (λ (t : List TileKind). t) c.in-Ok.tess (λ (r : TreeRules). r.automaton) c.in-Err-load_rules.refusal
     (record { too_long = c.in-Ok.ensures.too_long told; bad_line = c.in-Ok.ensures.bad_line told; bad_kinds = c.in-Ok.ensures.bad_kinds told; loaded = c.in-Ok.ensures.loaded told })
     (read_kept (c.in-Ok.ensures.same told) c.in-Ok.tess c.args.rules.now (λ (r : TreeRules). r.automaton) (Err c.in-Err-load_rules.refusal)
     (record { too_long = c.in-Err-load_rules.ensures.too_long told; no_text = c.in-Err-load_rules.ensures.no_text told; misshapen = c.in-Err-load_rules.ensures.misshapen told; broken = c.in-Err-load_rules.ensures.broken told; loaded = c.in-Err-load_rules.ensures.loaded told }))
-    lt (session_row _ c.args.tess.now c.args.kind c.args.rules.now ask due)
+    lt row
 
 pub returns-in-Err-load_rules-clause-serves : goal.returns-in-Err-load_rules-clause-serves
-returns-in-Err-load_rules-clause-serves g c = λ told words kinds a k ask serves.
-    served_failed _ c.args.tess.now c.args.kind c.args.rules.now kinds a k (λ (t : List TileKind). t) c.in-Ok.tess (λ (r : TreeRules). r.automaton) c.in-Err-load_rules.refusal
+returns-in-Err-load_rules-clause-serves g c = λ told kinds a k serves.
+    outside_serves kinds a k c.in-Err-load_rules.refusal (served_failed _ c.args.tess.now c.args.kind c.args.rules.now kinds a k (λ (t : List TileKind). t) c.in-Ok.tess (λ (r : TreeRules). r.automaton) c.in-Err-load_rules.refusal
     (record { too_long = c.in-Ok.ensures.too_long told; bad_line = c.in-Ok.ensures.bad_line told; bad_kinds = c.in-Ok.ensures.bad_kinds told; loaded = c.in-Ok.ensures.loaded told })
     (read_kept (c.in-Ok.ensures.same told) c.in-Ok.tess c.args.rules.now (λ (r : TreeRules). r.automaton) (Err c.in-Err-load_rules.refusal)
     (record { too_long = c.in-Err-load_rules.ensures.too_long told; no_text = c.in-Err-load_rules.ensures.no_text told; misshapen = c.in-Err-load_rules.ensures.misshapen told; broken = c.in-Err-load_rules.ensures.broken told; loaded = c.in-Err-load_rules.ensures.loaded told }))
-    (opens _ c.args.tess.now c.args.kind c.args.rules.now kinds a k ask serves)
+    serves)
 
 pub returns-in-Ok-load_rules-clause-due : goal.returns-in-Ok-load_rules-clause-due
-returns-in-Ok-load_rules-clause-due g c = λ told words ask.
+returns-in-Ok-load_rules-clause-due g c = λ told.
     let lt : c.args.kind < length c.in-Ok.tess = search rules in
-    session_due _ c.args.tess.now c.args.kind c.args.rules.now c.in-Ok.tess c.in-Ok-load_rules.rules ask (c.in-Ok.ensures.ok told) lt
-    (rules_kept (c.in-Ok.ensures.same told) c.in-Ok.tess c.args.rules.now (Loaded c.in-Ok-load_rules.rules.automaton) (c.in-Ok-load_rules.ensures.ok told)) c.in-Ok-load_rules.ensures.kinds
+    subst (λ (ks : List TileKind). ServesFor (g.F.Files.contents c.args.files.now) (RunSession c.args.tess.now c.args.kind c.args.rules.now) ks c.in-Ok-load_rules.rules.automaton c.args.kind) (sym c.in-Ok-load_rules.ensures.kinds) (
+      c.in-Ok.ensures.ok told,
+      rules_kept (c.in-Ok.ensures.same told) c.in-Ok.tess c.args.rules.now (Loaded c.in-Ok-load_rules.rules.automaton) (c.in-Ok-load_rules.ensures.ok told),
+      lt,
+      refl,
+    )
 
 pub returns-in-Ok-load_rules-clause-exact : goal.returns-in-Ok-load_rules-clause-exact
-returns-in-Ok-load_rules-clause-exact g c = λ told words answer ask due.
+returns-in-Ok-load_rules-clause-exact g c = λ told answer row.
     let lt : c.args.kind < length c.in-Ok.tess = search rules in
     session_opened _ c.args.tess.now c.args.kind c.args.rules.now (λ (t : List TileKind). t) c.in-Ok.tess (λ (r : TreeRules). r.automaton) c.in-Ok-load_rules.rules
     (record { too_long = c.in-Ok.ensures.too_long told; bad_line = c.in-Ok.ensures.bad_line told; bad_kinds = c.in-Ok.ensures.bad_kinds told; loaded = c.in-Ok.ensures.loaded told })
     (read_kept (c.in-Ok.ensures.same told) c.in-Ok.tess c.args.rules.now (λ (r : TreeRules). r.automaton) (Ok c.in-Ok-load_rules.rules)
     (record { too_long = c.in-Ok-load_rules.ensures.too_long told; no_text = c.in-Ok-load_rules.ensures.no_text told; misshapen = c.in-Ok-load_rules.ensures.misshapen told; broken = c.in-Ok-load_rules.ensures.broken told; loaded = c.in-Ok-load_rules.ensures.loaded told }))
-    lt (session_row _ c.args.tess.now c.args.kind c.args.rules.now ask due)
+    lt row
 
 pub returns-in-Ok-load_rules-clause-serves : goal.returns-in-Ok-load_rules-clause-serves
-returns-in-Ok-load_rules-clause-serves g c = λ told words kinds a k ask serves.
+returns-in-Ok-load_rules-clause-serves g c = λ told kinds a k serves.
     let found = served_opened _ c.args.tess.now c.args.kind c.args.rules.now kinds a k (λ (t : List TileKind). t) c.in-Ok.tess (λ (r : TreeRules). r.automaton) c.in-Ok-load_rules.rules
     (record { too_long = c.in-Ok.ensures.too_long told; bad_line = c.in-Ok.ensures.bad_line told; bad_kinds = c.in-Ok.ensures.bad_kinds told; loaded = c.in-Ok.ensures.loaded told })
     (read_kept (c.in-Ok.ensures.same told) c.in-Ok.tess c.args.rules.now (λ (r : TreeRules). r.automaton) (Ok c.in-Ok-load_rules.rules)
     (record { too_long = c.in-Ok-load_rules.ensures.too_long told; no_text = c.in-Ok-load_rules.ensures.no_text told; misshapen = c.in-Ok-load_rules.ensures.misshapen told; broken = c.in-Ok-load_rules.ensures.broken told; loaded = c.in-Ok-load_rules.ensures.loaded told }))
-    (opens _ c.args.tess.now c.args.kind c.args.rules.now kinds a k ask serves) in
+    serves in
     (c.in-Ok-load_rules.ensures.kinds ∙ found.0, found.1, found.2)

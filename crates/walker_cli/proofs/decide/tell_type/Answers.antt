@@ -1,45 +1,47 @@
 use Rattle.std.proofs.Common.{◌≡◌, ℕ, ◌<◌, ◌≤◌, List, Err, length, rules, sym, ◌∙◌, ap, subst}
 use Rattle.tile_model.specs.Tessellations.{TileKind}
 use Rattle.tile_model.specs.Walks.{type_of}
-use Rattle.walker_cli.specs.declared.answer.Answer.TheVariants.{LeadsTo}
+use Rattle.walker_cli.specs.declared.answer.Answer.TheVariants.{TypeTold}
 use Rattle.walker_cli.specs.Tasks.{TellType}
-use Rattle.walker_cli.specs.Due.{IsDue, no_tess, no_kind, type_told}
-use Rattle.walker_cli.proofs.Deciding.{refusal_due, kind_row, kind_unread, kind_missing, kind_leads}
+use Rattle.walker_cli.specs.declared.answer.Role.{Role}
+use Rattle.walker_cli.specs.Due.{TypeRow, type_no_tess, type_no_kind, type_told, FetchesFor}
+use Rattle.walker_cli.proofs.Deciding.{refusal_fits, type_unread, type_missing, type_leads}
 use Rattle.walker_cli.proofs.decide.tell_type.Goals as goal
 
 pub returns-in-Err-clause-due : goal.returns-in-Err-clause-due
-returns-in-Err-clause-due g c = λ told words ask.
-    refusal_due _ c.in-Err.refusal (λ answer is. no_tess (TellType c.args.tess.now c.args.kind c.args.walk.now) answer ask (c.in-Err.ensures.refused told answer (ap Err is)))
+returns-in-Err-clause-due g c = λ told.
+    refusal_fits (g.F.Files.contents c.args.files.now) (TellType c.args.tess.now c.args.kind c.args.walk.now) c.in-Err.refusal (λ answer is. (type_no_tess answer (c.in-Err.ensures.refused told answer (ap Err is))))
+    (λ role is. subst (λ (r : Role). FetchesFor (g.F.Files.contents c.args.files.now) (TellType c.args.tess.now c.args.kind c.args.walk.now) r) (sym (c.in-Err.ensures.role role (ap Err is))) tt)
 
 pub returns-in-Err-clause-exact : goal.returns-in-Err-clause-exact
-returns-in-Err-clause-exact g c = λ told words answer ask due.
-    kind_unread {T = List TileKind} _ c.args.tess.now c.args.kind c.args.walk.now (λ t. t) c.in-Err.refusal
+returns-in-Err-clause-exact g c = λ told answer row.
+    type_unread {T = List TileKind} _ c.args.tess.now c.args.kind c.args.walk.now (λ t. t) c.in-Err.refusal
     (record { too_long = c.in-Err.ensures.too_long told; bad_line = c.in-Err.ensures.bad_line told; bad_kinds = c.in-Err.ensures.bad_kinds told; loaded = c.in-Err.ensures.loaded told })
-    (kind_row _ c.args.tess.now c.args.kind c.args.walk.now ask due)
+    row
 
 pub returns-then-kind-from-clause-due : goal.returns-then-kind-from-clause-due
-returns-then-kind-from-clause-due g c = λ told words ask.
+returns-then-kind-from-clause-due g c = λ told.
     let few : length c.in-Ok.tess ≤ c.args.kind = search rules in
-    no_kind (TellType c.args.tess.now c.args.kind c.args.walk.now) c.in-Ok.tess ask (c.in-Ok.ensures.ok told) few
+    (type_no_kind c.in-Ok.tess (c.in-Ok.ensures.ok told) few)
 
 pub returns-then-kind-from-clause-exact : goal.returns-then-kind-from-clause-exact
-returns-then-kind-from-clause-exact g c = λ told words answer ask due.
+returns-then-kind-from-clause-exact g c = λ told answer row.
     let few : length c.in-Ok.tess ≤ c.args.kind = search rules in
-    kind_missing _ c.args.tess.now c.args.kind c.args.walk.now (λ (t : List TileKind). t) c.in-Ok.tess
+    type_missing _ c.args.tess.now c.args.kind c.args.walk.now (λ (t : List TileKind). t) c.in-Ok.tess
     (record { too_long = c.in-Ok.ensures.too_long told; bad_line = c.in-Ok.ensures.bad_line told; bad_kinds = c.in-Ok.ensures.bad_kinds told; loaded = c.in-Ok.ensures.loaded told })
-    few (kind_row _ c.args.tess.now c.args.kind c.args.walk.now ask due)
+    few row
 
 pub returns-clause-due : goal.returns-clause-due
-returns-clause-due g c = λ told words ask.
+returns-clause-due g c = λ told.
     let lt : c.args.kind < length c.in-Ok.tess = search rules in
     let leads : type_of c.in-Ok.tess (c.args.kind, 0) c.args.walk.now ≡ c.type_of.result = sym (c.type_of.ensures.value ∙ ap (λ (d : ℕ × ℕ). type_of c.in-Ok.tess d c.args.walk.now) c.start-start.ensures.value) in
-    subst (λ (d : ℕ × ℕ). IsDue (record { words = words; contents = g.F.Files.contents c.args.files.now }) (LeadsTo d)) leads
-    (type_told c.args.tess.now c.args.kind c.args.walk.now c.in-Ok.tess ask (c.in-Ok.ensures.ok told) lt)
+    subst (λ (d : ℕ × ℕ). TypeRow (g.F.Files.contents c.args.files.now) c.args.tess.now c.args.kind c.args.walk.now (TypeTold d)) leads
+    (type_told c.in-Ok.tess (c.in-Ok.ensures.ok told) lt)
 
 pub returns-clause-exact : goal.returns-clause-exact
-returns-clause-exact g c = λ told words answer ask due.
+returns-clause-exact g c = λ told answer row.
     let lt : c.args.kind < length c.in-Ok.tess = search rules in
     let leads : type_of c.in-Ok.tess (c.args.kind, 0) c.args.walk.now ≡ c.type_of.result = sym (c.type_of.ensures.value ∙ ap (λ (d : ℕ × ℕ). type_of c.in-Ok.tess d c.args.walk.now) c.start-start.ensures.value) in
-    ap LeadsTo (sym leads) ∙ kind_leads _ c.args.tess.now c.args.kind c.args.walk.now (λ (t : List TileKind). t) c.in-Ok.tess
+    ap TypeTold (sym leads) ∙ type_leads _ c.args.tess.now c.args.kind c.args.walk.now (λ (t : List TileKind). t) c.in-Ok.tess
     (record { too_long = c.in-Ok.ensures.too_long told; bad_line = c.in-Ok.ensures.bad_line told; bad_kinds = c.in-Ok.ensures.bad_kinds told; loaded = c.in-Ok.ensures.loaded told })
-    lt (kind_row _ c.args.tess.now c.args.kind c.args.walk.now ask due)
+    lt row

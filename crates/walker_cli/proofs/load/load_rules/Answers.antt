@@ -4,16 +4,16 @@ use Rattle.tree_model.specs.Automata.{TreeAutomaton}
 use Rattle.tree_model.specs.Conditions.{IsAccepted}
 use Rattle.rules_file.specs.Spelling.{IsTextOf, IsRulesFile}
 use Rattle.structure_check.specs.Broken.{IsFirstBroken}
-use Rattle.structure_check.proofs.First.{refutes}
 use Rattle.walker_cli.specs.declared.answer.Answer.{Answer}
 use Rattle.walker_cli.specs.declared.answer.Answer.TheVariants.{Broken}
-use Rattle.walker_cli.specs.declared.load.Refusal.TheVariants.{Answered}
+use Rattle.walker_cli.specs.declared.answer.Saying.TheVariants.{Due}
+use Rattle.walker_cli.specs.declared.load.Refusal.TheVariants.{Said}
 use Rattle.walker_cli.specs.Held.{Refused, Loaded, IsRules, rules_too_long, rules_syntax, rules_shape, rules_broken, rules_loaded}
 use Rattle.walker_cli.proofs.load.load_rules.Goals as goal
 
 pub returns-in-Err-clause-refused : goal.returns-in-Err-clause-refused
 returns-in-Err-clause-refused g c = λ told answer is.
-    let refusal : c.in-Err.refusal ≡ Answered answer = cc is in
+    let refusal : c.in-Err.refusal ≡ Said (Due answer) = cc is in
     let long = c.in-Err.ensures.refused told answer (ap Err refusal) in
     subst (λ (a : Answer). IsRules (g.F.Files.contents c.args.files.now) c.args.tess c.args.name.now (Refused a)) (sym long.0) (rules_too_long long.1)
 
@@ -61,8 +61,7 @@ returns-in-Ok-check-clause-no_text g c = λ told bytes holds none.
 pub returns-in-Ok-check-clause-broken : goal.returns-in-Ok-check-clause-broken
 returns-in-Ok-check-clause-broken g c = λ told bytes a n first second holds file broken.
     let same : c.in-Ok-read_rules.automaton ≡ a = c.in-Ok-read_rules.ensures.complete a (subst (λ (l : List ℕ). IsRulesFile l a) (sym (c.deref.ensures.value ∙ c.in-Ok.ensures.held told bytes holds)) file) in
-    let accepted : IsAccepted c.args.tess a = subst (λ (x : TreeAutomaton). IsAccepted c.args.tess x) same (c.in-Ok-check.ensures.exactly.0 refl) in
-    refutes c.args.tess a n first second broken accepted
+    c.in-Ok-check.ensures.unbroken n first second (subst (λ (x : TreeAutomaton). IsFirstBroken c.args.tess x n first second) (sym same) broken)
 
 pub returns-in-Ok-check-clause-loaded : goal.returns-in-Ok-check-clause-loaded
 returns-in-Ok-check-clause-loaded g c = λ told bytes a holds file accepted.

@@ -5,13 +5,14 @@ use Rattle.tess_text.specs.declared.fault.TessFault.{TessFault}
 use Rattle.tess_text.specs.declared.fault.TessFault.TheVariants.{Line, Kinds}
 use Rattle.walker_cli.specs.declared.answer.Answer.{Answer}
 use Rattle.walker_cli.specs.declared.answer.Answer.TheVariants.{TessLine, TessKinds}
-use Rattle.walker_cli.specs.declared.load.Refusal.TheVariants.{Answered}
+use Rattle.walker_cli.specs.declared.answer.Saying.TheVariants.{Due}
+use Rattle.walker_cli.specs.declared.load.Refusal.TheVariants.{Said}
 use Rattle.walker_cli.specs.Held.{Refused, IsTess, tess_too_long, tess_line, tess_kinds, tess_loaded}
 use Rattle.walker_cli.proofs.load.load_tess.Goals as goal
 
 pub returns-in-Err-clause-refused : goal.returns-in-Err-clause-refused
 returns-in-Err-clause-refused g c = λ told answer is.
-    let refusal : c.in-Err.refusal ≡ Answered answer = cc is in
+    let refusal : c.in-Err.refusal ≡ Said (Due answer) = cc is in
     let long = c.in-Err.ensures.refused told answer (ap Err refusal) in
     subst (λ (a : Answer). IsTess (g.F.Files.contents c.args.files.now) c.args.name.now (Refused a)) (sym long.0) (tess_too_long long.1)
 

@@ -1,19 +1,22 @@
 use Rattle.std.proofs.Common.{refl}
-use Rattle.walker_cli.specs.Ending.{no_plan, with_answer, with_stream}
-use Rattle.walker_cli.proofs.Plans.{answer_of, usage_of, session_of, serves_alone}
+use Rattle.walker_cli.specs.Ending.{no_plan, with_line, with_stream}
+use Rattle.walker_cli.proofs.Plans.{saying_of, cause_of, usage_of, session_of, serves_alone}
 use Rattle.walker_cli.proofs.run.carry_out_plan.Goals as goal
 
 pub returns-in_default-clause-ends : goal.returns-in_default-clause-ends
 returns-in_default-clause-ends g c = no_plan refl (λ told. refl)
 
 pub returns-in-Say-clause-ends : goal.returns-in-Say-clause-ends
-returns-in-Say-clause-ends g c = with_answer c.in-Say.answer
-    (λ told. answer_of _ c.in-Ok.plan c.in-Say.answer c.in-Say.is (record { due = c.in-Ok.ensures.due told; exact = c.in-Ok.ensures.exact told; serves = c.in-Ok.ensures.serves told }))
-    (λ none. usage_of c.in-Ok.plan c.in-Say.answer c.in-Say.is (c.in-Ok.ensures.no_form none))
+returns-in-Say-clause-ends g c = with_line c.in-Say.saying
+    (λ told. saying_of _ c.in-Ok.plan c.in-Say.saying c.in-Say.is
+    (record { due = c.in-Ok.ensures.due told; exact = c.in-Ok.ensures.exact told; serves = c.in-Ok.ensures.serves told }))
+    (cause_of c.in-Ok.plan c.in-Say.saying _ c.in-Say.is c.in-Ok.ensures.failed)
+    (λ none. usage_of c.in-Ok.plan c.in-Say.saying c.in-Say.is (c.in-Ok.ensures.no_form none))
     c.say.ensures.line
 
 pub returns-in-Serve-clause-ends : goal.returns-in-Serve-clause-ends
 returns-in-Serve-clause-ends g c = with_stream c.in-Serve.rules.kinds c.in-Serve.rules.automaton c.in-Serve.kind
-    (λ told. session_of _ c.in-Ok.plan c.in-Serve.rules c.in-Serve.kind c.in-Serve.is (record { due = c.in-Ok.ensures.due told; exact = c.in-Ok.ensures.exact told; serves = c.in-Ok.ensures.serves told }))
+    (λ told. session_of _ c.in-Ok.plan c.in-Serve.rules c.in-Serve.kind c.in-Serve.is
+    (record { due = c.in-Ok.ensures.due told; exact = c.in-Ok.ensures.exact told; serves = c.in-Ok.ensures.serves told }))
     (λ unasked. serves_alone c.in-Ok.plan c.in-Serve.rules c.in-Serve.kind c.in-Serve.is (c.in-Ok.ensures.said unasked))
     c.serve_walkers.ensures.ends

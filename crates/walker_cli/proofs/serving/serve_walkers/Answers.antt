@@ -1,7 +1,6 @@
-use Rattle.std.proofs.Common.{refl, subst}
-use Rattle.way_io.specs.Counts.{Rose}
+use Rattle.std.proofs.Common.{refl}
 use Rattle.walker_cli.specs.Ending.{out_of_memory}
-use Rattle.walker_cli.proofs.Streams.{nothing_begun, done_ends, unread_ends, unwritten_ends, memory_ends, over_ends}
+use Rattle.walker_cli.proofs.Streams.{rose_on, nothing_begun, done_ends, unread_ends, unwritten_ends, memory_ends, over_ends}
 use Rattle.walker_cli.proofs.serving.serve_walkers.Goals as goal
 
 pub returns-in_default-clause-ends : goal.returns-in_default-clause-ends
@@ -17,7 +16,8 @@ pub returns-in-InputTooLong-clause-ends : goal.returns-in-InputTooLong-clause-en
 returns-in-InputTooLong-clause-ends g c = over_ends _ _ c.in-Ok.session c.serve.new.session c.args.rules.now c.args.kind _ _ _ _ c.in-Ok.ensures.rules c.in-Ok.ensures.kind c.in-Ok.ensures.stands_over_walks _ c.refuse_input.result c.refuse_input.ensures.ends (λ told. c.serve.ensures.overrun told c.in-InputTooLong.is) (λ told takes. c.serve.ensures.input_too_long told takes c.in-InputTooLong.is) c.refuse_input.ensures.told c.refuse_input.ensures.prefix
 
 pub returns-in-InputTooLong-clause-write_cause : goal.returns-in-InputTooLong-clause-write_cause
-returns-in-InputTooLong-clause-write_cause g c = λ fault. subst (λ n. Rose n (g.O.Sink.faults c.refuse_input.new.out)) (c.serve.ensures.unbroken c.in-InputTooLong.is) (c.refuse_input.ensures.cause fault)
+returns-in-InputTooLong-clause-write_cause g c = λ fault.
+    rose_on _ _ _ c.serve.ensures.writes_later (c.refuse_input.ensures.cause fault)
 
 pub returns-in-WriteFault-clause-ends : goal.returns-in-WriteFault-clause-ends
 returns-in-WriteFault-clause-ends g c = unwritten_ends _ _ c.in-Ok.session c.serve.new.session c.args.rules.now c.args.kind _ _ _ _ c.in-Ok.ensures.rules c.in-Ok.ensures.kind c.in-Ok.ensures.stands_over_walks c.serve.ensures.begun

@@ -1,14 +1,26 @@
--- The statuses of the program and its lines.
+-- The statuses of the program, their classes, and the lines that go with them.
 use Rattle.std.specs.Prelude.{ℕ, List, [], ◌∷◌, ◌++◌, codes, decimal}
-use Rattle.tile_kinds.specs.declared.fault.KindFault.{KindFault}
-use Rattle.tile_kinds.specs.declared.fault.KindFault.TheVariants.{Count, Sides, Repeat, Partner, Valence, Involution, Corner}
+use Rattle.tile_model.specs.declared.fault.KindFault.{KindFault}
+use Rattle.tile_model.specs.declared.fault.KindFault.TheVariants.{Count, Sides, Repeat, Partner}
+use Rattle.tile_model.specs.declared.fault.KindFault.TheVariants.{Valence, Involution, Corner}
 use Rattle.rules_file.specs.declared.fault.Part.{Part}
-use Rattle.rules_file.specs.declared.fault.Part.TheVariants.{Whole, Version, Scale, Roots, Corners, Corner as OneCorner, States, State}
+use Rattle.rules_file.specs.declared.fault.Part.TheVariants.{Whole, Version, Scale, Roots, Corners}
+use Rattle.rules_file.specs.declared.fault.Part.TheVariants.{Corner as OneCorner, States, State}
 use Rattle.walker_cli.specs.declared.status.Status.{Status}
-use Rattle.walker_cli.specs.declared.status.Status.TheVariants.{Done, Usage as UsageStatus, FileFault as FileFaultStatus, FileTooLong as FileTooLongStatus, TessRefused, RulesText, NotAccepted, Memory, ReadFault, WriteFault, InputTooLong}
+use Rattle.walker_cli.specs.declared.status.Status.TheVariants.{Done, Usage as UsageStatus}
+use Rattle.walker_cli.specs.declared.status.Status.TheVariants.{FileFault as FileFaultStatus}
+use Rattle.walker_cli.specs.declared.status.Status.TheVariants.{FileTooLong as FileTooLongStatus}
+use Rattle.walker_cli.specs.declared.status.Status.TheVariants.{TessRefused, RulesText, NotAccepted}
+use Rattle.walker_cli.specs.declared.status.Status.TheVariants.{Memory, ReadFault, WriteFault}
+use Rattle.walker_cli.specs.declared.status.Status.TheVariants.{InputTooLong}
+use Rattle.walker_cli.specs.declared.answer.Role.{Role}
 use Rattle.walker_cli.specs.declared.answer.Role.TheVariants.{Tess, Rules}
 use Rattle.walker_cli.specs.declared.answer.Answer.{Answer}
-use Rattle.walker_cli.specs.declared.answer.Answer.TheVariants.{LeadsTo, Accepted, Usage, FileFault, FileTooLong, TessLine, TessKinds, RulesSyntax, RulesShape, Broken}
+use Rattle.walker_cli.specs.declared.answer.Saying.{Saying}
+use Rattle.walker_cli.specs.declared.answer.Saying.TheVariants.{Due, FileFault}
+use Rattle.walker_cli.specs.declared.answer.Answer.TheVariants.{TypeTold, Accepted, Usage}
+use Rattle.walker_cli.specs.declared.answer.Answer.TheVariants.{FileTooLong, TessLine, TessKinds}
+use Rattle.walker_cli.specs.declared.answer.Answer.TheVariants.{RulesSyntax, RulesShape, Broken}
 
 -- the exit status
 abbrev pub code_of : Status → ℕ
@@ -24,11 +36,31 @@ code_of ReadFault = 12
 code_of WriteFault = 13
 code_of InputTooLong = 15
 
+-- What a status tells of: the line of an answer, the outside, the stream of commands, or memory.
+pub data Class : Type 0 where
+  OfLine : Class
+  OfOutside : Class
+  OfStream : Class
+  OfMemory : Class
+
+abbrev pub class_of : Status → Class
+class_of Done = OfLine
+class_of UsageStatus = OfLine
+class_of FileFaultStatus = OfOutside
+class_of FileTooLongStatus = OfLine
+class_of TessRefused = OfLine
+class_of RulesText = OfLine
+class_of NotAccepted = OfLine
+class_of Memory = OfMemory
+class_of ReadFault = OfStream
+class_of WriteFault = OfOutside
+class_of InputTooLong = OfStream
+
+-- the status of an answer
 abbrev pub status_of : Answer → Status
-status_of (LeadsTo d) = Done
+status_of (TypeTold d) = Done
 status_of (Accepted states corners) = Done
 status_of Usage = UsageStatus
-status_of (FileFault role) = FileFaultStatus
 status_of (FileTooLong role) = FileTooLongStatus
 status_of (TessLine n) = TessRefused
 status_of (TessKinds fault) = TessRefused
@@ -64,12 +96,11 @@ shape_words_of OneCorner = codes "rules shape corner"
 shape_words_of States = codes "rules shape states"
 shape_words_of State = codes "rules shape state"
 
+-- the line of an answer
 abbrev pub line_of : Answer → List ℕ
-line_of (LeadsTo d) = numbered (codes "type") (d.0 ∷ d.1 ∷ [])
+line_of (TypeTold d) = numbered (codes "type") (d.0 ∷ d.1 ∷ [])
 line_of (Accepted states corners) = numbered (codes "accepted") (states ∷ corners ∷ [])
 line_of Usage = numbered (codes "usage") []
-line_of (FileFault Tess) = numbered (codes "file fault tess") []
-line_of (FileFault Rules) = numbered (codes "file fault rules") []
 line_of (FileTooLong Tess) = numbered (codes "file too long tess") []
 line_of (FileTooLong Rules) = numbered (codes "file too long rules") []
 line_of (TessLine n) = numbered (codes "tess line") (n ∷ [])
@@ -77,3 +108,17 @@ line_of (TessKinds fault) = kind_fault_line fault
 line_of RulesSyntax = numbered (codes "rules syntax") []
 line_of (RulesShape part index) = numbered (shape_words_of part) (index ∷ [])
 line_of (Broken at) = numbered (codes "broken") (at.condition ∷ at.first ∷ at.second ∷ [])
+
+-- the line that tells of a file that could not be read
+abbrev pub fault_line : Role → List ℕ
+fault_line Tess = numbered (codes "file fault tess") []
+fault_line Rules = numbered (codes "file fault rules") []
+
+-- the status and the line of what is said
+abbrev pub saying_status : Saying → Status
+saying_status (Due answer) = status_of answer
+saying_status (FileFault role) = FileFaultStatus
+
+abbrev pub saying_line : Saying → List ℕ
+saying_line (Due answer) = line_of answer
+saying_line (FileFault role) = fault_line role

@@ -1,0 +1,150 @@
+-- What a run of the program comes to, in one place.
+use Rattle.std.specs.Prelude.{◌≡◌, ◌⊎◌, ℕ, ◌<◌, ◌≤◌, IsTrue, List, [], length}
+use Rattle.tile_model.specs.Tessellations.{TileKind}
+use Rattle.tree_model.specs.Automata.{TreeAutomaton}
+use Rattle.line_server.specs.Answering.{over_tree}
+use Rattle.line_server.specs.Answering.{over_walks}
+use Rattle.way_io.specs.Counts.{Rose}
+use Rattle.way_io.specs.Contents.{KeepsAll}
+use Rattle.line_server.specs.Lines.{most_of_stream}
+use Rattle.line_server.specs.Endings.{GivesInOrder, TakesMore, IsBegun}
+use Rattle.walker_cli.specs.declared.status.Status.{Status}
+use Rattle.walker_cli.specs.declared.status.Status.TheVariants.{Done, Usage, FileFault, FileTooLong}
+use Rattle.walker_cli.specs.declared.status.Status.TheVariants.{TessRefused, RulesText, NotAccepted}
+use Rattle.walker_cli.specs.declared.status.Status.TheVariants.{Memory, ReadFault, WriteFault}
+use Rattle.walker_cli.specs.declared.status.Status.TheVariants.{InputTooLong}
+use Rattle.walker_cli.specs.declared.answer.Role.{Role}
+use Rattle.walker_cli.specs.declared.answer.Saying.{Saying}
+use Rattle.walker_cli.specs.declared.answer.Saying.TheVariants.{FileFault as FileFaultOf}
+use Rattle.walker_cli.specs.declared.answer.Answer.TheVariants.{Usage as UsageAnswer}
+use Rattle.walker_cli.specs.Tasks.{HaveNoForm, AreNotOfRun}
+use Rattle.walker_cli.specs.Runs.{Run, call_of}
+use Rattle.walker_cli.specs.StatusLines.{line_of, fault_line, saying_line}
+use Rattle.walker_cli.specs.Due.{Serves, ServesSome, Fetches, MaySay, IsFileFault}
+use Rattle.walker_cli.specs.Outcome.{Writes, WritesBeginning, WritesNothing, IsOutside, Gives}
+use Rattle.walker_cli.specs.Outcome.{GivesAtOnce, ComesExactly, TellsType, TellsAccepted}
+use Rattle.walker_cli.specs.Serving.{OutputStands, LinesStand, RefusalStands, BeginningStands}
+
+-- the statuses that tell of the outside or of memory, where the input is read
+abbrev pub IsOutsideOfStream : Status → Type 0
+IsOutsideOfStream status = IsOutside status ⊎ (status ≡ ReadFault)
+
+-- The beginning was written of a line that the run may say.
+-- That a file could not be read is begun only where a fetch failed.
+pub record BeginsLine (run : Run) (saying : Saying) : Type 0 where
+  pub may : IsTrue run.files_tell → MaySay (call_of run) saying
+  pub counted : IsFileFault saying → Rose run.before.failed_fetches run.after.failed_fetches
+  pub written : WritesBeginning run (saying_line saying)
+
+-- What becomes of the commands of the input, in a run that serves walkers over this automaton, in
+-- the tree of this kind.
+-- Its source tells.
+pub record AnswersStream (run : Run) (kinds : List TileKind) (a : TreeAutomaton) (k : ℕ) :
+    Type 0 where
+  -- The promise: Done, and exactly the output of the whole input, unless the outside or memory
+  -- fails.
+  pub answered :
+      IsTrue run.sink_tells → length run.before.left ≤ most_of_stream
+      → ((run.status ≡ Done)
+      × OutputStands (over_walks kinds a k)
+      run.before.left run.after.left run.before.taken run.after.taken)
+      ⊎ IsOutsideOfStream run.status
+  -- The same, where it is the tree of the rules that tells which replies are due.
+  pub answered_over_tree :
+      IsTrue run.sink_tells → length run.before.left ≤ most_of_stream
+      → ((run.status ≡ Done)
+      × OutputStands (over_tree kinds a k)
+      run.before.left run.after.left run.before.taken run.after.taken)
+      ⊎ IsOutsideOfStream run.status
+  -- InputTooLong comes where the input is over its limit, unless the outside or memory fails.
+  pub refused :
+      most_of_stream < length run.before.left
+      → (run.status ≡ InputTooLong) ⊎ IsOutsideOfStream run.status
+  pub over_limit : run.status ≡ InputTooLong → most_of_stream < length run.before.left
+  -- What stands written at each status: the output of the whole input,
+  pub at_done :
+      IsTrue run.sink_tells → run.status ≡ Done
+      → OutputStands (over_walks kinds a k)
+      run.before.left run.after.left run.before.taken run.after.taken
+  -- the output of the whole lines that were read,
+  pub at_read_fault :
+      IsTrue run.sink_tells → run.status ≡ ReadFault
+      → LinesStand (over_walks kinds a k)
+      run.before.left run.after.left run.before.taken run.after.taken
+  -- the output of the lines within the limit and the line of the status,
+  pub at_input_too_long :
+      IsTrue run.sink_tells → run.status ≡ InputTooLong
+      → RefusalStands (over_walks kinds a k) run.before.left run.before.taken run.after.taken
+  -- the beginning of what would otherwise stand,
+  pub at_write_fault :
+      IsTrue run.sink_tells → run.status ≡ WriteFault
+      → BeginningStands (over_walks kinds a k) run.before.left run.before.taken run.after.taken
+      ⊎ ((role : Role) × BeginsLine run (FileFaultOf role))
+  -- and the beginning of the output.
+  pub at_memory :
+      IsTrue run.sink_tells → run.status ≡ Memory
+      → IsBegun (over_walks kinds a k) [] run.before.left run.before.taken run.after.taken
+
+-- The words ask for walkers to be served, and where the files tell they hold what is needed for it.
+pub record IsServing (run : Run) : Type 0 where
+  pub asked : ¬ AreNotOfRun run.words
+  pub serves : IsTrue run.files_tell → ServesSome (call_of run)
+
+-- A file that the call fetches could not be read, which was counted, and the line tells which.
+pub record TellsFileFault (run : Run) : Type 0 where
+  pub role : Role
+  pub fetches : IsTrue run.files_tell → Fetches (call_of run) role
+  pub counted : Rose run.before.failed_fetches run.after.failed_fetches
+  pub written : Writes run (fault_line role)
+
+-- A read failed, which was counted, while walkers were served.
+pub record TellsReadFault (run : Run) : Type 0 where
+  pub serving : IsServing run
+  pub counted : Rose run.before.failed_reads run.after.failed_reads
+
+-- A write failed, which was counted: of a line, or while walkers were served.
+pub record TellsWriteFault (run : Run) : Type 0 where
+  pub begun : ((saying : Saying) × BeginsLine run saying) ⊎ IsServing run
+  pub counted : Rose run.before.failed_writes run.after.failed_writes
+
+-- The table of answers is followed: where each status comes, and with which line.
+pub record FollowsTable (run : Run) : Type 0 where
+  -- What two forms write, where the files hold what it needs.
+  pub kind :
+      IsTrue run.files_tell → (line : List ℕ)
+      → TellsType (call_of run) line → Gives run Done line
+  pub check :
+      IsTrue run.files_tell → (line : List ℕ)
+      → TellsAccepted (call_of run) line → Gives run Done line
+  -- The statuses of answers. Done comes so unless the run serves walkers.
+  pub done : IsTrue run.files_tell → ServesSome (call_of run) ⊎ ComesExactly run Done
+  pub usage : IsTrue run.files_tell → ComesExactly run Usage
+  pub file_too_long : IsTrue run.files_tell → ComesExactly run FileTooLong
+  pub tess_refused : IsTrue run.files_tell → ComesExactly run TessRefused
+  pub rules_text : IsTrue run.files_tell → ComesExactly run RulesText
+  pub not_accepted : IsTrue run.files_tell → ComesExactly run NotAccepted
+  -- The statuses that only may come.
+  pub file_fault : run.status ≡ FileFault → TellsFileFault run
+  pub read_fault : run.status ≡ ReadFault → TellsReadFault run
+  pub write_fault : run.status ≡ WriteFault → TellsWriteFault run
+  pub input_too_long : run.status ≡ InputTooLong → IsServing run
+  pub memory : run.status ≡ Memory → WritesNothing run ⊎ IsServing run
+
+-- what stays as it was, at each status
+pub record KeepsOutside (run : Run) : Type 0 where
+  pub contents : IsTrue run.files_tell → KeepsAll run.before.contents run.after.contents
+  pub stores : run.after.failed_stores ≡ run.before.failed_stores
+  pub taken : IsTrue run.sink_tells → TakesMore run.before.taken run.after.taken
+  pub left : IsTrue run.source_tells → GivesInOrder run.before.left run.after.left
+
+-- What is promised of each run.
+pub record KeepsPromise (run : Run) : Type 0 where
+  -- With rules from a file this holds of each automaton that the file spells.
+  pub stream :
+      IsTrue run.files_tell → IsTrue run.source_tells
+      → (kinds : List TileKind) (a : TreeAutomaton) (k : ℕ)
+      → Serves (call_of run) kinds a k
+      → AnswersStream run kinds a k
+  pub table : FollowsTable run
+  pub no_form : HaveNoForm run.words → GivesAtOnce run Usage (line_of UsageAnswer)
+  pub keeps : KeepsOutside run
