@@ -25,7 +25,7 @@ pub record PassesFar (kinds : List TileKind) (d : ℕ × ℕ) (home before walk 
 -- From side s of the root of the tree of kind k, some beginning of the way leads to a name of more
 -- sides than that.
 pub record LeadsFar (kinds : List TileKind) (a : TreeAutomaton) (k s : ℕ) (way : List Letter)
-  : Type 0
+    : Type 0
   where
     pub prefix : List Letter
     pub rest : List Letter

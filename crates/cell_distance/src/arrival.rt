@@ -21,13 +21,7 @@ use turn_rules::Spot;
 use walk_words::{Letter, Walk};
 
 /// Where the way leads from a side of the root of a kind of the tessellation.
-pub fn arrive(
-    alloc: Global,
-    r: &Rules,
-    kind: u8,
-    side: u8,
-    way: &Walk,
-) -> Result<Spot, DistFault>
+pub fn arrive(alloc: Global, r: &Rules, kind: u8, side: u8, way: &Walk) -> Result<Spot, DistFault>
     requires sound { AreSound r.now }
     requires kind { kind < length r.now.kinds }
     requires side { side < sides r.now.kinds (kind, 0) }

@@ -25,13 +25,7 @@ const FEW_CROSSINGS: u64 = tree_model::DEEPEST as u64;
 ///
 /// `Deep` comes exactly where some beginning of the way back along `u` and then along `w` ends at a
 /// tile more than 4,000 crossings from the tile of `u`.
-pub fn distance(
-    alloc: Global,
-    r: &Rules,
-    kind: u8,
-    u: &Walk,
-    w: &Walk,
-) -> Result<u32, DistFault>
+pub fn distance(alloc: Global, r: &Rules, kind: u8, u: &Walk, w: &Walk) -> Result<u32, DistFault>
     requires { kind < length r.now.kinds }
     ensures least { IfOk result (λ n. IsDistance r.now.kinds (kind, 0) u.now w.now n) }
     ensures deep { IsErrOf result DistFault.Deep
@@ -48,13 +42,7 @@ pub fn distance(
 /// side 0 and then along the name of the tile of `w`. It is empty where the tiles are one.
 ///
 /// `Deep` comes where it comes from `distance`.
-pub fn shortest(
-    alloc: Global,
-    r: &Rules,
-    kind: u8,
-    u: &Walk,
-    w: &Walk,
-) -> Result<Walk, DistFault>
+pub fn shortest(alloc: Global, r: &Rules, kind: u8, u: &Walk, w: &Walk) -> Result<Walk, DistFault>
     requires { kind < length r.now.kinds }
     ensures least { IfOk result (λ z. IsShortestWay r.now.kinds (kind, 0) u.now w.now z) }
     ensures named { IfOk result (λ z. (p : Position)

@@ -85,12 +85,12 @@ fn go_between_spots(
     ensures sound { AreSound r.now }
     ensures arrives { IfOk result (λ e.
         ArrivesFrom r.now.kinds r.now.automaton (root_kind r.now s.now)
-            (position_word (position s.now)) (word t.now.name) e.0 e.1) }
+        (position_word (position s.now)) (word t.now.name) e.0 e.1) }
     ensures deep { IsErrOf result DistFault.Deep
         → PassesFar r.now.kinds (root_kind r.now s.now, 0)
-            (position_word (position s.now)) [] (word t.now.name) }
+        (position_word (position s.now)) [] (word t.now.name) }
     ensures too_deep { PassesFar r.now.kinds (root_kind r.now s.now, 0)
-            (position_word (position s.now)) [] (word t.now.name)
+        (position_word (position s.now)) [] (word t.now.name)
         → IsErrOf result DistFault.Deep ⊎ IsErrOf result DistFault.Memory }
 {
     let from = s.faced_type(r);

@@ -13,8 +13,8 @@ use std::alloc::{AllocError, Global};
 use std::test::Fail;
 use structure_check::Rules;
 use tree_laws::laws::{contours, levels, matching, places, rings, shortest, weights};
-use turn_rules::laws::{across_back, round_corner};
 use turn_rules::Spot;
+use turn_rules::laws::{across_back, round_corner};
 use walk_words::{Walk, print_walk, read_walk};
 
 // Side 0 of the root of kind 0.

@@ -37,11 +37,11 @@ module _ (kinds : List TileKind) (a : TreeAutomaton) (k most : ℕ) where
       absurd (omega (arith, near, deep, f))
   arrives_deep (L ∷ u) p q near f deep =
       let n : length f.0.name ≤ most =
-          subst (λ (r : Position). length r.name ≤ most) f.1 near in
+      subst (λ (r : Position). length r.name ≤ most) f.1 near in
       arrives_later L p f.0 u f.1 (arrives_deep u f.0 q n f.2 deep)
   arrives_deep (R ∷ u) p q near f deep =
       let n : length f.0.name ≤ most =
-          subst (λ (r : Position). length r.name ≤ most) f.1 near in
+      subst (λ (r : Position). length r.name ≤ most) f.1 near in
       arrives_later R p f.0 u f.1 (arrives_deep u f.0 q n f.2 deep)
   arrives_deep (X ∷ u) p q near f deep =
       ⊎_elim (λ d. record { before = []; behind = u; split = refl; there = f.0; leads = (f.0, f.1, refl); deep = d })

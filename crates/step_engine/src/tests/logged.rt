@@ -2,8 +2,8 @@
 ghost use Rattle.std.specs.Prelude.{◌≡◌};
 
 use super::start;
-use sample_tilings::pentagons;
 use crate::{Contour, Crossing, Detour, StepFault, walk_over};
+use sample_tilings::pentagons;
 use std::alloc::AllocError;
 use std::test::Fail;
 use structure_check::Rules;

@@ -4,9 +4,9 @@ ghost use Rattle.std.specs.Prelude.{OnOk};
 ghost use Rattle.spot_laws.specs.Spots.{IsSpot};
 
 use super::start;
-use sample_tilings::{heptagons, heptagons_and_hexagons, pentagons};
 use crate::walk;
 use rules_data::Rule;
+use sample_tilings::{heptagons, heptagons_and_hexagons, pentagons};
 use std::alloc::{AllocError, Global};
 use std::test::Fail;
 use structure_check::Rules;

@@ -3,8 +3,8 @@ ghost use Rattle.std.specs.Prelude.{OnOk};
 ghost use Rattle.spot_laws.specs.Spots.{IsSpot};
 
 use super::start;
-use sample_tilings::heptagons_and_hexagons;
 use rules_data::Rule;
+use sample_tilings::heptagons_and_hexagons;
 use smallvec::SmallVec;
 use std::alloc::{AllocError, Global};
 use std::test::Fail;

@@ -24,7 +24,7 @@ returns-clause-least c = λ u w first second.
     let there = c.in_ok-from.there in
     let on = subst (λ j. IsPlace c.args.r.now.kinds c.args.r.now.automaton j w (position c.args.t.now)) c.requires.tree second in
     let same : c.in_ok-way_along.field-0 ≡ way_to (type_of c.args.r.now.kinds (k, 0) (position_word (position c.args.s.now))).1 there.name =
-        c.in_ok-way_along.ensures ∙ ap₂ way_to (ap (λ (d : ℕ × ℕ). d.1) (c.from.view_is ∙ c.in_ok-from.ensures.arrives.starts)) c.name.ensures in
+    c.in_ok-way_along.ensures ∙ ap₂ way_to (ap (λ (d : ℕ × ℕ). d.1) (c.from.view_is ∙ c.in_ok-from.ensures.arrives.starts)) c.name.ensures in
     subst (λ z. IsShortestWay c.args.r.now.kinds (k, 0) u w z) (sym same)
     (shortest_of_walks c.args.r.now.kinds c.args.r.now.automaton k sound.valid sound.accepted c.requires.first.known (position c.args.s.now) (position c.args.t.now) u w first on (position there) c.in_ok-from.ensures.arrives.place)
 
@@ -35,7 +35,7 @@ returns-clause-named c = λ u w p first second place.
     let there = c.in_ok-from.there in
     let on = subst (λ j. IsPlace c.args.r.now.kinds c.args.r.now.automaton j w (position c.args.t.now)) c.requires.tree second in
     let same : c.in_ok-way_along.field-0 ≡ way_to (type_of c.args.r.now.kinds (k, 0) (position_word (position c.args.s.now))).1 there.name =
-        c.in_ok-way_along.ensures ∙ ap₂ way_to (ap (λ (d : ℕ × ℕ). d.1) (c.from.view_is ∙ c.in_ok-from.ensures.arrives.starts)) c.name.ensures in
+    c.in_ok-way_along.ensures ∙ ap₂ way_to (ap (λ (d : ℕ × ℕ). d.1) (c.from.view_is ∙ c.in_ok-from.ensures.arrives.starts)) c.name.ensures in
     same ∙ way_of_walks c.args.r.now.kinds c.args.r.now.automaton k sound.valid sound.accepted c.requires.first.known (position c.args.s.now) (position c.args.t.now) u w first on (position there) c.in_ok-from.ensures.arrives.place p place
 
 pub returns-clause-too_deep : goal.returns-clause-too_deep
