@@ -1,110 +1,168 @@
--- No line spells two commands, and what spells none.
-use Rattle.std.proofs.Common.{◌≡◌, ◌≢◌, ℕ, List, ◌++◌, get_or, drop, arith, codes, Result, Ok, Err, IfOk, IsErrOf, MatchResult, refl, ap, ap₂, sym, ◌∙◌, subst}
+-- A line spells one command: its first word and what stands behind it tell which.
+use Rattle.std.proofs.Common.{◌≡◌, ◌≢◌, ℕ, ◌==◌, Bool, true, false, List, [], ◌∷◌, ◌++◌, if◌then◌else◌, codes, Option, Some, None, Result, Ok, Err, IfOk, IsErrOf, MatchResult, refl, sym, ap, ap₂, ◌∙◌, subst}
+use Rattle.std.specs.List.{list_all}
+use Rattle.std.specs.Str.{bytes_eq}
+use Rattle.std.proofs.lemmas.List.Elements.{All-nil, All-cons}
 use Rattle.tile_model.specs.declared.Letter.{Letter}
 use Rattle.reply_model.specs.declared.Command.{Command}
 use Rattle.reply_model.specs.declared.Command.TheVariants.{New, Go, At, Same}
-use Rattle.walk_words.specs.Text.{walk_text}
-use Rattle.walk_words.proofs.Codes.{one_walk}
-use Rattle.command_text.specs.Lines.{IsWalker, IsSpelling}
+use Rattle.command_text.specs.CommandLines.{space, spaced, Operands, one_walker, two_walkers, walker_and_walk, word_of, operands_of, IsSpelling, SpellsNothing}
+use Rattle.command_text.specs.Words.{Lacks, AreToldBy, Shape, walker_alone, walkers, walker_with_walk, shape_of, TellNothing}
 use Rattle.command_text.specs.declared.command.LineFault.{LineFault}
 use Rattle.command_text.specs.declared.command.LineFault.TheVariants.{TooLong, Bad, Memory}
-use Rattle.command_text.specs.Words.{IsInFront}
-use Rattle.command_text.proofs.Words.{one_split, walker_lacks}
+use Rattle.command_text.proofs.Splits.{lacks_none, one_split}
+use Rattle.command_text.proofs.Operands.{one_told, behind_word}
 
--- a number of a walker is written by its digits alone
-one_number : (digits others : List ℕ) (w v : ℕ) → digits ≡ others → IsWalker digits w → IsWalker others v → w ≡ v
-one_number digits others w v same is is' = cc (same, is.value, is'.value)
+-- the command of a shape that is told this
+abbrev of_walker : (ℕ → Command) → Operands → Option Command
+of_walker make (one_walker w) = Some (make w)
+of_walker make _ = None
 
--- the numbers and the rests in front of which they stand
-pub one_front : (bytes : List ℕ) (w v : ℕ) (rest tail : List ℕ) → IsInFront bytes w rest → IsInFront bytes v tail → (w ≡ v) × (rest ≡ tail)
-one_front bytes w v rest tail is is' =
-    let same = one_split is.digits is'.digits rest tail (walker_lacks is.digits w is.number) (walker_lacks is'.digits v is'.number) (sym is.text ∙ is'.text) in
-    (one_number is.digits is'.digits w v same.0 is.number is'.number, same.1)
+abbrev of_walkers : (ℕ → ℕ → Command) → Operands → Option Command
+of_walkers make (two_walkers w v) = Some (make w v)
+of_walkers make _ = None
 
--- the byte that the lines of a form begin with
-abbrev first_byte : Command → ℕ
-first_byte (New w) = 110
-first_byte (Go w walk) = 103
-first_byte (At w) = 97
-first_byte (Same w v) = 115
+abbrev of_walk : (ℕ → List Letter → Command) → Operands → Option Command
+of_walk make (walker_and_walk w walk) = Some (make w walk)
+of_walk make _ = None
 
-first_is : (line : List ℕ) (c : Command) → IsSpelling line c → get_or line 0 0 ≡ first_byte c
-first_is line (New w) is = ap (λ (l : List ℕ). get_or l 0 0) is.text
-first_is line (Go w walk) is = ap (λ (l : List ℕ). get_or l 0 0) is.text
-first_is line (At w) is = ap (λ (l : List ℕ). get_or l 0 0) is.text
-first_is line (Same w v) is = ap (λ (l : List ℕ). get_or l 0 0) is.text
+-- what the commands with a first word look like
+pub record Form : Type 0 where
+  pub shape : Shape
+  pub make : Operands → Option Command
 
--- a line has one form
-one_form : (line : List ℕ) (c d : Command) → IsSpelling line c → IsSpelling line d → first_byte c ≡ first_byte d
-one_form line c d is is' = sym (first_is line c is) ∙ first_is line d is'
+-- the table of the first words
+abbrev pub form : List ℕ → Form
+form word =
+    if bytes_eq word (codes "new") then record { shape = walker_alone; make = of_walker New }
+    else if bytes_eq word (codes "go") then record { shape = walker_with_walk; make = of_walk Go }
+    else if bytes_eq word (codes "at") then record { shape = walker_alone; make = of_walker At }
+    else record { shape = walkers; make = of_walkers Same }
 
--- what stands behind the words of the forms with more than one word behind
-go_behind : (line : List ℕ) (w : ℕ) (walk : List Letter) → IsSpelling line (Go w walk) → IsInFront (drop 3 line) w (walk_text walk)
-go_behind line w walk is = record { digits = is.digits; number = is.number; text = ap (λ (l : List ℕ). drop 3 l) is.text }
+-- each command has a row of the table
+has_shape : (c : Command) → (form (word_of c)).shape ≡ shape_of (operands_of c)
+has_shape (New w) = refl
+has_shape (Go w walk) = refl
+has_shape (At w) = refl
+has_shape (Same w v) = refl
 
-same_behind : (line : List ℕ) (w v : ℕ) (is : IsSpelling line (Same w v)) → IsInFront (drop 5 line) w is.second
-same_behind line w v is = record { digits = is.first; number = is.first_number; text = ap (λ (l : List ℕ). drop 5 l) is.text }
+is_made : (c : Command) → (form (word_of c)).make (operands_of c) ≡ Some c
+is_made (New w) = refl
+is_made (Go w walk) = refl
+is_made (At w) = refl
+is_made (Same w v) = refl
+
+-- the byte is another one than a space
+abbrev is_other : ℕ → Bool
+is_other byte = if byte == space then false else true
+
+other_byte : (byte : ℕ) → is_other byte ≡ true → byte ≢ space
+other_byte byte other e = absurd (cc (sym (ap is_other e) ∙ other))
+
+both_true : (a b : Bool) → (if a then b else false) ≡ true → (a ≡ true) × (b ≡ true)
+both_true true b e = (refl, e)
+both_true false b e = absurd (cc)
+
+abbrev all_other : List ℕ → Bool
+all_other [] = true
+all_other (byte ∷ bytes) = if is_other byte then all_other bytes else false
+
+lacks_by : (bytes : List ℕ) → all_other bytes ≡ true → Lacks space bytes
+lacks_by [] e = All-nil (λ b. b ≢ space)
+lacks_by (byte ∷ bytes) e =
+    let both = both_true (is_other byte) (all_other bytes) e in
+    All-cons (λ b. b ≢ space) byte bytes (other_byte byte both.0) (lacks_by bytes both.1)
+
+-- no first word has a space
+lacks_space : (c : Command) → Lacks space (word_of c)
+lacks_space (New w) = lacks_by (codes "new") refl
+lacks_space (Go w walk) = lacks_by (codes "go") refl
+lacks_space (At w) = lacks_by (codes "at") refl
+lacks_space (Same w v) = lacks_by (codes "same") refl
+
+-- the line of a command, cut behind its first word
+pub record IsParted (line : List ℕ) (c : Command) : Type 0 where
+  pub rest : List ℕ
+  pub text : line ≡ word_of c ++ space ∷ rest
+  pub told : AreToldBy rest (operands_of c)
+
+parts : (line : List ℕ) (c : Command) → IsSpelling line c → IsParted line c
+parts line c is = record {
+  rest = spaced is.words;
+  text = is.text ∙ behind_word (word_of c) is.told;
+  told = record { words = is.words; told = is.told; text = refl };
+}
+
+abbrev the_command : Command → Option Command → Command
+the_command c None = c
+the_command c (Some d) = d
 
 pub unique : (line : List ℕ) (c d : Command) → IsSpelling line c → IsSpelling line d → c ≡ d
-unique line (New w) (New v) is is' =
-    ap New (one_number is.digits is'.digits w v (ap (λ (l : List ℕ). drop 4 l) (sym is.text ∙ is'.text)) is.number is'.number)
-unique line (At w) (At v) is is' =
-    ap At (one_number is.digits is'.digits w v (ap (λ (l : List ℕ). drop 3 l) (sym is.text ∙ is'.text)) is.number is'.number)
-unique line (Go w walk) (Go v other) is is' =
-    let same = one_front (drop 3 line) w v (walk_text walk) (walk_text other) (go_behind line w walk is) (go_behind line v other is') in
-    ap₂ Go same.0 (one_walk walk other same.1)
-unique line (Same w v) (Same w' v') is is' =
-    let same = one_front (drop 5 line) w w' is.second is'.second (same_behind line w v is) (same_behind line w' v' is') in
-    ap₂ Same same.0 (one_number is.second is'.second v v' same.1 is.second_number is'.second_number)
-unique line (New w) (Go v other) is is' = absurd (omega (arith, one_form line (New w) (Go v other) is is'))
-unique line (New w) (At v) is is' = absurd (omega (arith, one_form line (New w) (At v) is is'))
-unique line (New w) (Same w' v') is is' = absurd (omega (arith, one_form line (New w) (Same w' v') is is'))
-unique line (Go w walk) (New v) is is' = absurd (omega (arith, one_form line (Go w walk) (New v) is is'))
-unique line (Go w walk) (At v) is is' = absurd (omega (arith, one_form line (Go w walk) (At v) is is'))
-unique line (Go w walk) (Same w' v') is is' = absurd (omega (arith, one_form line (Go w walk) (Same w' v') is is'))
-unique line (At w) (New v) is is' = absurd (omega (arith, one_form line (At w) (New v) is is'))
-unique line (At w) (Go v other) is is' = absurd (omega (arith, one_form line (At w) (Go v other) is is'))
-unique line (At w) (Same w' v') is is' = absurd (omega (arith, one_form line (At w) (Same w' v') is is'))
-unique line (Same w v) (New v') is is' = absurd (omega (arith, one_form line (Same w v) (New v') is is'))
-unique line (Same w v) (Go v' other) is is' = absurd (omega (arith, one_form line (Same w v) (Go v' other) is is'))
-unique line (Same w v) (At v') is is' = absurd (omega (arith, one_form line (Same w v) (At v') is is'))
+unique line c d is also =
+    let p = parts line c is in
+    let q = parts line d also in
+    let same =
+    one_split space (word_of c) (word_of d) p.rest q.rest (lacks_space c) (lacks_space d)
+    (sym p.text ∙ q.text) in
+    let shape =
+    sym (has_shape c) ∙ ap (λ (word : List ℕ). (form word).shape) same.0 ∙ has_shape d in
+    let told =
+    one_told q.rest (operands_of c) (operands_of d)
+    (subst (λ (l : List ℕ). AreToldBy l (operands_of c)) same.1 p.told) q.told shape in
+    ap (the_command c)
+    (sym (is_made c) ∙ ap₂ (λ (word : List ℕ) (o : Operands). (form word).make o) same.0 told ∙ is_made d)
 
--- Bytes behind `go ` in front of which no number of a walker stands.
-pub go_nobody : (line rest : List ℕ) → line ≡ codes "go " ++ rest → ((w : ℕ) (tail : List ℕ) → ¬ (IsInFront rest w tail)) → (c : Command) → ¬ (IsSpelling line c)
-go_nobody line rest begins none (Go w walk) is =
-    none w (walk_text walk) (subst (λ (l : List ℕ). IsInFront l w (walk_text walk)) (ap (λ (l : List ℕ). drop 3 l) begins) (go_behind line w walk is))
-go_nobody line rest begins none (New w) is = absurd (omega (arith, sym (ap (λ (l : List ℕ). get_or l 0 0) begins) ∙ first_is line (New w) is))
-go_nobody line rest begins none (At w) is = absurd (omega (arith, sym (ap (λ (l : List ℕ). get_or l 0 0) begins) ∙ first_is line (At w) is))
-go_nobody line rest begins none (Same w v) is = absurd (omega (arith, sym (ap (λ (l : List ℕ). get_or l 0 0) begins) ∙ first_is line (Same w v) is))
+-- a first word, and behind it what the command is told
+pub spells :
+    (line word rest : List ℕ) (c : Command) → line ≡ word ++ space ∷ rest → word ≡ word_of c
+    → AreToldBy rest (operands_of c) → IsSpelling line c
+spells line word rest c e is told = record {
+  words = told.words;
+  told = told.told;
+  text =
+      e
+      ∙ ap₂ (λ (a b : List ℕ). a ++ space ∷ b) is told.text
+      ∙ sym (behind_word (word_of c) told.told);
+}
 
--- Bytes behind the number of a walker in a line of `go` that are no walk's text.
-pub go_nowhere : (line rest : List ℕ) (w : ℕ) (tail : List ℕ) → line ≡ codes "go " ++ rest → IsInFront rest w tail → ((walk : List Letter) → walk_text walk ≢ tail) → (c : Command) → ¬ (IsSpelling line c)
-go_nowhere line rest w tail begins front none (Go v walk) is =
-    let behind = subst (λ (l : List ℕ). IsInFront l v (walk_text walk)) (ap (λ (l : List ℕ). drop 3 l) begins) (go_behind line v walk is) in
-    none walk (one_front rest v w (walk_text walk) tail behind front).1
-go_nowhere line rest w tail begins front none (New v) is = absurd (omega (arith, sym (ap (λ (l : List ℕ). get_or l 0 0) begins) ∙ first_is line (New v) is))
-go_nowhere line rest w tail begins front none (At v) is = absurd (omega (arith, sym (ap (λ (l : List ℕ). get_or l 0 0) begins) ∙ first_is line (At v) is))
-go_nowhere line rest w tail begins front none (Same v v') is = absurd (omega (arith, sym (ap (λ (l : List ℕ). get_or l 0 0) begins) ∙ first_is line (Same v v') is))
+module _ (line word rest : List ℕ) (e : line ≡ word ++ space ∷ rest) (lacks : Lacks space word) where
+  -- a first word, and behind it nothing of its shape
+  pub tells_nothing :
+      (known : List ℕ) → word ≡ known → TellNothing rest (form known).shape → SpellsNothing line
+  tells_nothing known is none = λ c spelt.
+      let p = parts line c spelt in
+      let same =
+      one_split space (word_of c) word p.rest rest (lacks_space c) lacks (sym p.text ∙ e) in
+      none (operands_of c) (sym (has_shape c) ∙ ap (λ (l : List ℕ). (form l).shape) (same.0 ∙ is))
+      (subst (λ (l : List ℕ). AreToldBy l (operands_of c)) same.1 p.told)
 
--- Bytes behind `same ` in front of which no number of a walker stands.
-pub same_nobody : (line rest : List ℕ) → line ≡ codes "same " ++ rest → ((w : ℕ) (tail : List ℕ) → ¬ (IsInFront rest w tail)) → (c : Command) → ¬ (IsSpelling line c)
-same_nobody line rest begins none (Same w v) is =
-    none w is.second (subst (λ (l : List ℕ). IsInFront l w is.second) (ap (λ (l : List ℕ). drop 5 l) begins) (same_behind line w v is))
-same_nobody line rest begins none (New w) is = absurd (omega (arith, sym (ap (λ (l : List ℕ). get_or l 0 0) begins) ∙ first_is line (New w) is))
-same_nobody line rest begins none (At w) is = absurd (omega (arith, sym (ap (λ (l : List ℕ). get_or l 0 0) begins) ∙ first_is line (At w) is))
-same_nobody line rest begins none (Go w walk) is = absurd (omega (arith, sym (ap (λ (l : List ℕ). get_or l 0 0) begins) ∙ first_is line (Go w walk) is))
+  -- a word that begins no line of a command
+  pub unknown :
+      word ≢ codes "new" → word ≢ codes "go" → word ≢ codes "at" → word ≢ codes "same"
+      → SpellsNothing line
+  unknown not_new not_go not_at not_same = λ c spelt.
+      let p = parts line c spelt in
+      let same =
+      one_split space (word_of c) word p.rest rest (lacks_space c) lacks (sym p.text ∙ e) in
+      no_word c (sym same.0)
+    where
+      no_word : (c : Command) → word ≢ word_of c
+      no_word (New w) = not_new
+      no_word (Go w walk) = not_go
+      no_word (At w) = not_at
+      no_word (Same w v) = not_same
 
--- Bytes behind the number of the first walker that are the number of no walker.
-pub same_alone : (line rest : List ℕ) (w : ℕ) (tail : List ℕ) → line ≡ codes "same " ++ rest → IsInFront rest w tail → ((v : ℕ) → ¬ (IsWalker tail v)) → (c : Command) → ¬ (IsSpelling line c)
-same_alone line rest w tail begins front none (Same w' v) is =
-    let behind = subst (λ (l : List ℕ). IsInFront l w' is.second) (ap (λ (l : List ℕ). drop 5 l) begins) (same_behind line w' v is) in
-    none v (subst (λ (l : List ℕ). IsWalker l v) (one_front rest w' w is.second tail behind front).1 is.second_number)
-same_alone line rest w tail begins front none (New v) is = absurd (omega (arith, sym (ap (λ (l : List ℕ). get_or l 0 0) begins) ∙ first_is line (New v) is))
-same_alone line rest w tail begins front none (At v) is = absurd (omega (arith, sym (ap (λ (l : List ℕ). get_or l 0 0) begins) ∙ first_is line (At v) is))
-same_alone line rest w tail begins front none (Go v walk) is = absurd (omega (arith, sym (ap (λ (l : List ℕ). get_or l 0 0) begins) ∙ first_is line (Go v walk) is))
+-- one word alone
+pub one_word : (line : List ℕ) → Lacks space line → SpellsNothing line
+one_word line lacks = λ c spelt.
+    let p = parts line c spelt in
+    lacks_none space line (word_of c) p.rest lacks p.text
 
 -- what is read without being told wrongly is what is spelt
-pub complete : (line : List ℕ) (r : Result Command LineFault) → IfOk r (λ c. IsSpelling line c) → (IsErrOf r Bad → (c : Command) → ¬ (IsSpelling line c)) → r ≢ Err TooLong → (c : Command) → IsSpelling line c → MatchResult r (λ read. read ≡ c) (λ fault. fault ≡ Memory)
+pub complete :
+    (line : List ℕ) (r : Result Command LineFault) → IfOk r (IsSpelling line)
+    → (IsErrOf r Bad → SpellsNothing line) → r ≢ Err TooLong → (c : Command) → IsSpelling line c
+    → MatchResult r (λ read. read ≡ c) (λ fault. fault ≡ Memory)
 complete line (Ok read) spelt none short c is = unique line read c spelt is
 complete line (Err TooLong) spelt none short c is = absurd (short refl)
 complete line (Err Bad) spelt none short c is = absurd (none refl c is)

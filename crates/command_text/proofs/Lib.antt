@@ -1,3 +1,6 @@
-pub mod Words
-pub mod Strips
+pub mod Splits
+pub mod Numbers
+pub mod Begins
+pub mod Operands
 pub mod Forms
+pub mod Decided

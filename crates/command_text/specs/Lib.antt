@@ -1,3 +1,4 @@
-pub mod Lines
+pub mod CommandLines
 pub mod Words
 pub mod Replies
+pub mod Laws

@@ -3,7 +3,7 @@ use Rattle.std.specs.Prelude.{◌≡◌, ℕ, List, [], ◌∷◌, ◌++◌, len
 use Rattle.reply_model.specs.declared.Reply.{Reply}
 use Rattle.reply_model.specs.declared.Reply.TheVariants.{Done, At, Yes, No, NoWalker, Taken, Deep}
 use Rattle.cell_names.specs.Text.{name_text}
-use Rattle.command_text.specs.Lines.{spaced}
+use Rattle.command_text.specs.CommandLines.{spaced}
 
 -- what ends a line
 abbrev pub line_feed : List ℕ

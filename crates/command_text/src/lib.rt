@@ -2,10 +2,13 @@
 #![tactic(auto)]
 
 mod command;
+mod cutting;
+pub mod laws;
 mod reply;
 #[cfg(test)]
 mod tests;
 
 pub use command::{LONGEST_LINE, LineFault, read_line};
-pub use reply::{bad_line, print_reply, too_long_line, write_reply};
+pub use cutting::cut_at;
+pub use reply::{bad_line, too_long_line, write_reply};
 pub use reply_model::{Bytes, Command, Reply};

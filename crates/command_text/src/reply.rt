@@ -1,12 +1,12 @@
 //! The lines of replies, printed.
-ghost use Rattle.std.specs.Prelude.{◌≡◌, ℕ, List, [], ◌∷◌, ◌++◌, codes, decimal, IfOk, OnOk, OnErr};
+ghost use Rattle.std.specs.Prelude.{◌≡◌, ◌∷◌, ◌++◌, codes, decimal, OnOk, OnErr};
 ghost use Rattle.cell_names.specs.Text.{name_text};
 ghost use Rattle.command_text.specs.Replies.{Begins, line_feed, place_words, reply_text};
 
 use cell_names::{Name, write_name};
 use itoa::Buffer;
 use reply_model::Reply;
-use std::alloc::{AllocError, Global};
+use std::alloc::AllocError;
 
 /// The line that answers a line of over 8,192 bytes, with its line feed.
 pub fn too_long_line() -> &'static [u8]
@@ -20,15 +20,6 @@ pub fn bad_line() -> &'static [u8]
     ensures { result.now ≡ codes "bad" ++ line_feed }
 {
     b"bad\n"
-}
-
-/// The line of a reply, with its line feed.
-pub fn print_reply(alloc: Global, x: &Reply) -> Result<Vec<u8>, AllocError>
-    ensures { IfOk result (λ text. text.items ≡ reply_text x.now) }
-{
-    let mut text = Vec::new(alloc);
-    write_reply(&mut text, x)?;
-    Ok(text)
 }
 
 /// Appends the line of a reply, with its line feed. Out of memory the bytes are as they were.
@@ -49,7 +40,8 @@ pub fn write_reply(out: &mut Vec<u8>, x: &Reply) -> Result<(), AllocError>
 
 /// Appends the line of a place, or leaves the bytes as they were.
 fn write_place(out: &mut Vec<u8>, name: &Name, spin: u8, kind: u8) -> Result<(), AllocError>
-    ensures written { OnOk result (out.new.items ≡ out.old.items ++ place_words name.now spin kind ++ line_feed) }
+    ensures written { OnOk result
+        (out.new.items ≡ out.old.items ++ place_words name.now spin kind ++ line_feed) }
     ensures unchanged { OnErr result (out.new.items ≡ out.old.items) }
 {
     let start = out.len();
@@ -62,7 +54,8 @@ fn write_place(out: &mut Vec<u8>, name: &Name, spin: u8, kind: u8) -> Result<(),
 
 /// Appends the line of a place, or some bytes.
 fn append_place(out: &mut Vec<u8>, name: &Name, spin: u8, kind: u8) -> Result<(), AllocError>
-    ensures written { OnOk result (out.new.items ≡ out.old.items ++ place_words name.now spin kind ++ line_feed) }
+    ensures written { OnOk result
+        (out.new.items ≡ out.old.items ++ place_words name.now spin kind ++ line_feed) }
     ensures kept { OnErr result (Begins out.new.items out.old.items) }
 {
     out.extend_from_slice(b"at ")?;

@@ -1,6 +1,7 @@
 // Lines read and printed, compared with values from outside.
 use crate::{
-    Command, LONGEST_LINE, LineFault, Reply, bad_line, print_reply, read_line, too_long_line,
+    Command, LONGEST_LINE, LineFault, Reply, bad_line, cut_at, laws, read_line, too_long_line,
+    write_reply,
 };
 use cell_names::read_name;
 use std::test::Fail;
@@ -8,6 +9,7 @@ use std::test::Fail;
 #[test]
 fn lines_of_each_form_are_read(rt: HostRuntime) -> Result<(), Fail> {
     let alloc = rt.alloc();
+    laws::spelling();
     for (line, want) in [
         ("new 0", Some((0, 0, 0))),
         ("new 000000063", Some((0, 63, 0))),
@@ -100,10 +102,19 @@ fn replies_are_lines(rt: HostRuntime) -> Result<(), Fail> {
         (Reply::Taken, "taken\n"),
         (Reply::Deep, "deep\n"),
     ] {
-        let text = print_reply(alloc, &reply)?;
+        let mut text = Vec::new(alloc);
+        write_reply(&mut text, &reply)?;
         assert_eq!(rt; text.as_slice(), want.as_bytes());
     }
     assert_eq!(rt; too_long_line(), b"too long\n".as_slice());
     assert_eq!(rt; bad_line(), b"bad\n".as_slice());
+    Ok(())
+}
+
+#[test]
+fn bytes_are_cut_at_the_first_separator(rt: HostRuntime) -> Result<(), Fail> {
+    let parts = cut_at(b"go 0 LX", b' ');
+    assert_eq!(rt; parts, Some((b"go".as_slice(), b"0 LX".as_slice())));
+    assert_eq!(rt; cut_at(b"go", b' '), None);
     Ok(())
 }

@@ -1,65 +1,143 @@
 -- One line, answered by a session.
-use Rattle.std.proofs.Common.{◌≡◌, ◌≢◌, ℕ, ◌<◌, ◌≤◌, List, [], ◌∷◌, ◌++◌, length, refl, sym, ap, subst, arith, cond}
-use Rattle.std.proofs.lemmas.List.{append-nil, length-append}
-use Rattle.std.specs.Prelude.{Result, Ok, Err, OnOk, OnErr, is_ok, codes}
+use Rattle.std.proofs.Common.{◌≡◌, ◌≢◌, ℕ, ◌<◌, ◌≤◌, Bool, List, [], ◌∷◌, ◌++◌, length, refl, sym, ap, subst, arith}
+use Rattle.std.proofs.lemmas.List.{length-append}
+use Rattle.std.specs.Prelude.{Result, Ok, Err, OnOk, OnErr}
 use Rattle.reply_model.specs.declared.Command.{Command}
+use Rattle.reply_model.specs.declared.Command.TheVariants.{New, Go, At, Same}
 use Rattle.reply_model.specs.declared.Reply.{Reply}
-use Rattle.command_text.specs.Lines.{IsSpelling}
-use Rattle.command_text.specs.Replies.{line_feed, reply_text}
-use Rattle.session_core.specs.Sessions.{SessionState}
-use Rattle.session_core.specs.WalkSessions.{StandsForWalks, IsDueOverWalks}
-use Rattle.line_server.specs.Lines.{most_of_line}
-use Rattle.line_server.specs.Outputs.{History, IsAnswered, too_long, empty, bad, replied}
-use Rattle.line_server.specs.Sessions.{AnswersLine}
-use Rattle.line_server.specs.Readers.{HasReplied}
+use Rattle.command_text.specs.CommandLines.{Operands, one_walker, two_walkers, walker_and_walk, AreTold, by_number, by_numbers, by_number_and_letters, IsSpelling, SpellsNothing, most_of_line}
+use Rattle.command_text.specs.Replies.{reply_text}
+use Rattle.session_core.specs.Sessions.{SessionState, HasNumbers, StandsForWalks}
+use Rattle.reply_model.specs.Histories.{History, most_walkers}
+use Rattle.line_server.specs.Outputs.{IsAnswered, too_long, empty, bad, replied, too_long_text, bad_text}
+use Rattle.line_server.specs.Outboxes.{HasSaid, HasBroken}
+use Rattle.line_server.specs.Sessions.{answering_of, AnswersLine, DuesLine}
+use Rattle.line_server.specs.Readers.{HasReplied, HasFailed, nothing, partly}
+use Rattle.line_server.proofs.Saying.{says_none, breaks_none}
 
--- what follows from what holds after Ok
+-- what follows from what holds after Ok, and after Err
 pub on_ok : {T E : Type 0} {P Q : Type 0} (r : Result T E) → (P → Q) → OnOk r P → OnOk r Q
 on_ok (Ok x) f p = f p
 on_ok (Err e) f p = p
 
--- what follows from what was appended after Ok
-pub on_extended : {T E : Type 0} {P : Type 0} (r : Result T E) (was ys now : List ℕ) → now ≡ cond (is_ok r) (was ++ ys) was → (now ≡ was ++ ys → P) → OnOk r P
-on_extended (Ok x) was ys now e f = f e
-on_extended (Err x) was ys now e f = tt
-
--- what holds after Err
 pub on_err : {T E P : Type 0} (r : Result T E) → P → OnErr r P
 on_err (Ok x) p = tt
 on_err (Err e) p = p
 
+pub then_err : {T E : Type 0} {P Q : Type 0} (r : Result T E) → (P → Q) → OnErr r P → OnErr r Q
+then_err (Ok x) f p = p
+then_err (Err e) f p = f p
+
 -- bytes of no length
-pub nothing : (bytes : List ℕ) → length bytes ≡ 0 → bytes ≡ []
-nothing [] none = refl
-nothing (byte ∷ bytes) none = absurd (omega (arith, none))
+pub no_bytes : (bytes : List ℕ) → length bytes ≡ 0 → bytes ≡ []
+no_bytes [] none = refl
+no_bytes (byte ∷ bytes) none = absurd (omega (arith, none))
+
+-- what a line tells a command are numbers of walkers
+abbrev AreNumbers : Operands → Type 0
+AreNumbers (one_walker w) = w < most_walkers
+AreNumbers (two_walkers w v) = (w < most_walkers) × (v < most_walkers)
+AreNumbers (walker_and_walk w walk) = w < most_walkers
+
+are_numbers : {told : Operands} {words : List (List ℕ)} → AreTold told words → AreNumbers told
+are_numbers (by_number w digits is) = is.below
+are_numbers (by_numbers w v first second is too) = (is.below, too.below)
+are_numbers (by_number_and_letters w walk digits is) = is.below
+
+pub numbers_told : (text : List ℕ) (c : Command) → IsSpelling text c → HasNumbers c
+numbers_told text (New w) s = are_numbers s.told
+numbers_told text (Go w walk) s = are_numbers s.told
+numbers_told text (At w) s = are_numbers s.told
+numbers_told text (Same w v) s = are_numbers s.told
 
 -- a session that stays as it is, and says this to the line
-stays : (s : SessionState) (line text answer : List ℕ) → ((before : History) → IsAnswered (IsDueOverWalks s) before line text answer before) → AnswersLine s s line text answer
-stays s line text answer said = record { rules = refl; kind = refl; stands = λ before stands. (before, said before, stands) }
+stays :
+    (s : SessionState) (line text answer : List ℕ)
+    → ((before : History) → IsAnswered (answering_of s) before line text answer before)
+    → AnswersLine s s line text answer
+stays s line text answer said =
+    record { rules = refl; kind = refl; stands = λ before stands. (before, said before, stands) }
 
-pub says_too_long : (s : SessionState) (line text before after : List ℕ) → most_of_line < length line → after ≡ before ++ (codes "too long" ++ line_feed) → HasReplied s line text before s after
-says_too_long s line text before after long e = record { answer = codes "too long" ++ line_feed; appended = e; session = stays s line text _ (λ h. too_long long) }
+module _ (tells : Bool) (s : SessionState) (line text taken waiting : List ℕ) where
+  -- an answer that changes nothing
+  pub replies_so :
+      (answer taken' waiting' : List ℕ)
+      → ((h : History) → IsAnswered (answering_of s) h line text answer h)
+      → HasSaid tells taken waiting answer taken' waiting'
+      → HasReplied tells s line text taken waiting s taken' waiting'
+  replies_so answer taken' waiting' told said =
+      record { answer = answer; said = said; session = stays s line text answer told }
 
-pub says_nothing : (s : SessionState) (line text before : List ℕ) → length line ≤ most_of_line → text ≡ [] → HasReplied s line text before s before
-says_nothing s line text before short none = record { answer = []; appended = sym (append-nil before); session = stays s line text [] (λ h. empty short none) }
+  pub fails_so :
+      (answer taken' : List ℕ) → ((h : History) → IsAnswered (answering_of s) h line text answer h)
+      → HasBroken tells taken waiting answer taken'
+      → HasFailed tells s line text taken waiting taken'
+  fails_so answer taken' told broken = partly answer (λ h here. (h, told h)) broken
 
-pub says_bad : (s : SessionState) (line text before after : List ℕ) → length line ≤ most_of_line → text ≢ [] → ((c : Command) → ¬ IsSpelling text c) → after ≡ before ++ (codes "bad" ++ line_feed) → HasReplied s line text before s after
-says_bad s line text before after short some unspelt e = record { answer = codes "bad" ++ line_feed; appended = e; session = stays s line text _ (λ h. bad short some unspelt) }
+  pub says_nothing :
+      length line ≤ most_of_line → text ≡ []
+      → HasReplied tells s line text taken waiting s taken waiting
+  says_nothing short none =
+      replies_so [] taken waiting (λ h. empty short none) (says_none tells taken waiting)
 
-pub replies : (old new : SessionState) (line text before after : List ℕ) (c : Command) (x : Reply) → length line ≤ most_of_line → IsSpelling text c → ((history : History) → StandsForWalks old history → IsDueOverWalks old history c x) → ((history : History) → StandsForWalks old history → StandsForWalks new (history ++ (c, x) ∷ [])) → new.rules ≡ old.rules → new.kind ≡ old.kind → after ≡ before ++ reply_text x → HasReplied old line text before new after
-replies old new line text before after c x short spelt due stands rules kind e = record {
-  answer = reply_text x;
-  appended = e;
-  session = record { rules = rules; kind = kind; stands = λ history here. (history ++ (c, x) ∷ [], replied short c x spelt (due history here), stands history here) };
-}
+  pub fails_before : HasFailed tells s line text taken waiting taken
+  fails_before = nothing (breaks_none tells taken waiting)
+
+pub is_too_long :
+    (s : SessionState) (line text : List ℕ) → most_of_line < length line → (h : History)
+    → IsAnswered (answering_of s) h line text too_long_text h
+is_too_long s line text long h = too_long long
+
+pub is_bad :
+    (s : SessionState) (line text : List ℕ) → length line ≤ most_of_line → text ≢ []
+    → SpellsNothing text → (h : History) → IsAnswered (answering_of s) h line text bad_text h
+is_bad s line text short some unspelt h = bad short some unspelt
+
+module _ (tells : Bool) (old new : SessionState) (line text taken waiting : List ℕ) (c : Command) (x : Reply) (short : length line ≤ most_of_line) (spelt : IsSpelling text c) (due : (history : History) → StandsForWalks old history → (answering_of old).IsDue history c x) where
+  pub replies :
+      (taken' waiting' : List ℕ)
+      → ((history : History) → StandsForWalks old history → StandsForWalks new (history ++ (c, x) ∷ []))
+      → new.rules ≡ old.rules → new.kind ≡ old.kind
+      → HasSaid tells taken waiting (reply_text x) taken' waiting'
+      → HasReplied tells old line text taken waiting new taken' waiting'
+  replies taken' waiting' stands rules kind said = record {
+    answer = reply_text x;
+    said = said;
+    session =
+        record { rules = rules; kind = kind; stands = λ history here. (history ++ (c, x) ∷ [], replied short c x (reply_text x) spelt (due history here) refl, stands history here) };
+  }
+
+  pub fails_replying :
+      (taken' : List ℕ) → HasBroken tells taken waiting (reply_text x) taken'
+      → HasFailed tells old line text taken waiting taken'
+  fails_replying taken' broken =
+      partly (reply_text x)
+      (λ history here. (history ++ (c, x) ∷ [], replied short c x (reply_text x) spelt (due history here) refl))
+      broken
 
 -- a line whose beginning was dropped
-pub says_lost : (s : SessionState) (dropped line text before after : List ℕ) → most_of_line < length dropped → after ≡ before ++ (codes "too long" ++ line_feed) → HasReplied s (dropped ++ line) text before s after
-says_lost s dropped line text before after long e =
-    says_too_long s (dropped ++ line) text before after (rw (length-append dropped line) (omega (arith, long))) e
+pub lost_is_long :
+    (dropped line : List ℕ) → most_of_line < length dropped
+    → most_of_line < length (dropped ++ line)
+lost_is_long dropped line long = rw (length-append dropped line) (omega (arith, long))
 
 -- a line of which nothing was dropped
-pub says_kept : (old new : SessionState) (dropped line text whole before after : List ℕ) → dropped ≡ [] → whole ≡ text → HasReplied old line text before new after → HasReplied old (dropped ++ line) whole before new after
-says_kept old new dropped line text whole before after none e r =
-    let same : line ≡ dropped ++ line = ap (λ l. l ++ line) (sym none) in
-    subst (λ l. HasReplied old l whole before new after) same (subst (λ t. HasReplied old line t before new after) (sym e) r)
+module _ (dropped line text whole : List ℕ) (none : dropped ≡ []) (e : whole ≡ text) where
+  kept_line : line ≡ dropped ++ line
+  kept_line = ap (λ l. l ++ line) (sym none)
+
+  pub replies_kept :
+      (tells : Bool) (old new : SessionState) (taken waiting taken' waiting' : List ℕ)
+      → HasReplied tells old line text taken waiting new taken' waiting'
+      → HasReplied tells old (dropped ++ line) whole taken waiting new taken' waiting'
+  replies_kept tells old new taken waiting taken' waiting' r =
+      subst (λ l. HasReplied tells old l whole taken waiting new taken' waiting') kept_line
+      (subst (λ t. HasReplied tells old line t taken waiting new taken' waiting') (sym e) r)
+
+  pub fails_kept :
+      (tells : Bool) (old : SessionState) (taken waiting taken' : List ℕ)
+      → HasFailed tells old line text taken waiting taken'
+      → HasFailed tells old (dropped ++ line) whole taken waiting taken'
+  fails_kept tells old taken waiting taken' f =
+      subst (λ l. HasFailed tells old l whole taken waiting taken') kept_line
+      (subst (λ t. HasFailed tells old line t taken waiting taken') (sym e) f)

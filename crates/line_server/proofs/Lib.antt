@@ -1,4 +1,5 @@
-pub mod Cutting
+pub mod Counts
+pub mod Saying
 pub mod Answering
 pub mod Chains
 pub mod Going
@@ -10,3 +11,7 @@ pub mod Pieces
 pub mod Once
 pub mod OneOutput
 pub mod SameOutput
+pub mod SomeOutput
+pub mod Due
+pub mod Interleaving
+pub mod Streams

@@ -1,21 +1,34 @@
--- Where replies are due alike, so are outputs.
+-- Where the same replies are due and have the same texts, the outputs are the same.
 use Rattle.std.proofs.Common.{ℕ, List}
 use Rattle.reply_model.specs.declared.Command.{Command}
 use Rattle.reply_model.specs.declared.Reply.{Reply}
-use Rattle.line_server.specs.Outputs.{History, IsAnswered, too_long, empty, bad, replied, AreAnswered, none, next, IsOutput}
+use Rattle.reply_model.specs.Histories.{History}
+use Rattle.line_server.specs.Answering.{Answering}
+use Rattle.line_server.specs.Outputs.{IsAnswered, too_long, empty, bad, replied, AreAnswered, none, next, IsOutput}
 
-module _ (Due Other : History → Command → Reply → Type 0) (again : (history : History) (c : Command) (x : Reply) → Due history c x → Other history c x) where
-  answered_again : {history : History} {line text answer : List ℕ} {after : History} → IsAnswered Due history line text answer after → IsAnswered Other history line text answer after
+module _ (first second : Answering)
+    (due : (history : History) (c : Command) (x : Reply) → first.IsDue history c x → second.IsDue history c x)
+    (text : (x : Reply) (bytes : List ℕ) → first.HasText x bytes → second.HasText x bytes) where
+  answered_again :
+      {history : History} {line words answer : List ℕ} {after : History}
+      → IsAnswered first history line words answer after
+      → IsAnswered second history line words answer after
   answered_again (too_long far) = too_long far
   answered_again (empty short e) = empty short e
   answered_again (bad short some n) = bad short some n
-  answered_again {history} (replied short c x s due) = replied short c x s (again history c x due)
+  answered_again {history} (replied short c x answer s d t) =
+      replied short c x answer s (due history c x d) (text x answer t)
 
-  lines_again : {before after : History} {lines : List (List ℕ)} {answers : List ℕ} → AreAnswered Due before lines answers after → AreAnswered Other before lines answers after
+  lines_again :
+      {before after : History} {lines : List (List ℕ)} {answers : List ℕ}
+      → AreAnswered first before lines answers after → AreAnswered second before lines answers after
   lines_again (none history) = none history
-  lines_again (next before between after line answer lines answers a rest) = next before between after line answer lines answers (answered_again a) (lines_again rest)
+  lines_again (next before between after line answer lines answers a rest) =
+      next before between after line answer lines answers (answered_again a) (lines_again rest)
 
-  pub output_again : (before : History) (bytes out : List ℕ) (after : History) → IsOutput Due before bytes out after → IsOutput Other before bytes out after
+  pub output_again :
+      (before : History) (bytes out : List ℕ) (after : History)
+      → IsOutput first before bytes out after → IsOutput second before bytes out after
   output_again before bytes out after o = record {
     lines = o.lines;
     last = o.last;

@@ -4,17 +4,16 @@ use Rattle.std.proofs.lemmas.List.{append_assoc, append-nil, length-append}
 use Rattle.std.proofs.lemmas.List.Elements.{All-nil, All-append}
 use Rattle.way_io.specs.Pieces.{AppendsPrefix}
 use Rattle.session_core.specs.Sessions.{SessionState}
-use Rattle.session_core.specs.WalkSessions.{IsDueOverWalks}
 use Rattle.line_server.specs.declared.reader.Reader.{Reader}
-use Rattle.line_server.specs.declared.reader.Stop.{Stop}
-use Rattle.line_server.specs.declared.reader.Stop.TheVariants.{Memory}
+use Rattle.line_server.specs.declared.outbox.Stop.{Stop}
+use Rattle.line_server.specs.declared.outbox.Stop.TheVariants.{Memory}
 use Rattle.line_server.specs.declared.stream.Ending.TheVariants.{Done, ReadFault, InputTooLong}
 use Rattle.line_server.specs.Lines.{feed, LacksFeed, AreCut, ended, most_of_stream}
 use Rattle.line_server.specs.Outputs.{IsAnswered, AreAnswered, none, IsLinesOutput, IsOutput, of_lines, of_all}
-use Rattle.line_server.specs.Sessions.{Continues, AnswersLine, AnswersLines}
+use Rattle.line_server.specs.Sessions.{Continues, answering_of, AnswersLine, AnswersLines}
 use Rattle.line_server.specs.Readers.{Keeps, HasRead, HasStopped, HasEnded, HasFailed, nothing, partly}
 use Rattle.line_server.specs.Serving.{EndsAs, ends_done, ends_unread, ends_over, ends_stopped, ending_of}
-use Rattle.line_server.proofs.Chains.{ended_append, answers_append, answers_then, due_stays, no_lines}
+use Rattle.line_server.proofs.Chains.{ended_append, answers_append, answers_then, answering_stays, no_lines}
 
 -- So many bytes were read. The lines among them are answered and their answers written, and the reader keeps what stands behind.
 pub record Serving (gives takes : Bool) (old : SessionState) (left taken : List ℕ) (now : SessionState) (r : Reader) (left' taken' : List ℕ) (total : ℕ) : Type 0 where
@@ -92,7 +91,7 @@ module _ (gives takes : Bool) (old : SessionState) (left taken : List ℕ) where
     }
 
     -- what was written of the whole lines
-    lines_output : Continues old now (λ before after. IsLinesOutput (IsDueOverWalks old) before s.bytes s.answers after)
+    lines_output : Continues old now (λ before after. IsLinesOutput (answering_of old) before s.bytes s.answers after)
     lines_output = record {
       rules = s.session.rules;
       kind = s.session.kind;
@@ -106,14 +105,14 @@ module _ (gives takes : Bool) (old : SessionState) (left taken : List ℕ) where
     over_end more left'' next full some = ends_over s.bytes more s.answers (λ t. s.read t ∙ ap (λ l. s.bytes ++ l) (next t)) (s.count ∙ full) some lines_output s.written
 
     -- the output up to the last line feed, and what answers the rest
-    whole_output : (new : SessionState) (answer : List ℕ) → AnswersLine now new s.line s.line answer → Continues old new (λ before after. IsOutput (IsDueOverWalks old) before s.bytes (s.answers ++ answer) after)
+    whole_output : (new : SessionState) (answer : List ℕ) → AnswersLine now new s.line s.line answer → Continues old new (λ before after. IsOutput (answering_of old) before s.bytes (s.answers ++ answer) after)
     whole_output new answer a = record {
       rules = a.rules ∙ s.session.rules;
       kind = a.kind ∙ s.session.kind;
       stands = λ before here.
           let first = s.session.stands before here in
           let second = a.stands first.0 first.2 in
-          (second.0, record { lines = s.lines; last = s.line; cut = s.cut; between = first.0; whole = s.answers; ending = answer; answers = first.1; answer = due_stays (λ Due. IsAnswered Due first.0 s.line s.line answer second.0) old now s.session.rules s.session.kind second.1; joined = refl }, second.2);
+          (second.0, record { lines = s.lines; last = s.line; cut = s.cut; between = first.0; whole = s.answers; ending = answer; answers = first.1; answer = answering_stays (λ answering. IsAnswered answering first.0 s.line s.line answer second.0) old now s.session.rules s.session.kind second.1; joined = refl }, second.2);
     }
 
     pub done_end : (new : SessionState) (left'' taken'' : List ℕ) → total ≤ most_of_stream → (IsTrue gives → left' ≡ []) → (IsTrue gives → left'' ≡ []) → HasEnded takes now s.line taken' new taken'' → EndsAs gives takes old left taken new left'' taken'' Done
@@ -134,21 +133,21 @@ module _ (gives takes : Bool) (old : SessionState) (left taken : List ℕ) where
         }
 
     -- the work stopped at the last line
-    pub failed_end : (stop : Stop) (new : SessionState) (left'' taken'' : List ℕ) → total ≤ most_of_stream → (IsTrue gives → left' ≡ []) → (IsTrue gives → left'' ≡ []) → HasFailed takes now s.line taken' taken'' → EndsAs gives takes old left taken new left'' taken'' (ending_of stop)
+    pub failed_end : (stop : Stop) (new : SessionState) (left'' taken'' : List ℕ) → total ≤ most_of_stream → (IsTrue gives → left' ≡ []) → (IsTrue gives → left'' ≡ []) → HasFailed takes now s.line s.line taken' [] taken'' → EndsAs gives takes old left taken new left'' taken'' (ending_of stop)
     failed_end stop new left'' taken'' few empty still (nothing w) =
         ends_stopped stop s.bytes s.answers
         (λ t. s.read t ∙ ap (λ l. s.bytes ++ l) (empty t ∙ sym (still t)))
-        (λ before here t. let it = lines_output.stands before here in of_lines s.bytes left' s.answers it.0 (s.read t) (subst (λ n. n ≤ most_of_stream) (sym s.count) few) it.1)
-        (λ t. record { rest = []; sent = record { sent = s.answers; split = sym (append-nil s.answers); appended = w t ∙ s.written t } })
+        (λ t before here. let it = lines_output.stands before here in of_lines s.bytes left' s.answers it.0 (s.read t) (subst (λ n. n ≤ most_of_stream) (sym s.count) few) it.1)
+        (λ t. subst (AppendsPrefix taken taken'') (append-nil s.answers) (behind_answers taken'' [] w t))
     failed_end stop new left'' taken'' few empty still (partly answer due w) =
         let all : IsTrue gives → left ≡ s.bytes = λ t. s.read t ∙ ap (λ l. s.bytes ++ l) (empty t) ∙ append-nil s.bytes in
         ends_stopped stop s.bytes (s.answers ++ answer)
         (λ t. s.read t ∙ ap (λ l. s.bytes ++ l) (empty t ∙ sym (still t)))
-        (λ before here t.
+        (λ t before here.
         let first = s.session.stands before here in
         let second = due first.0 first.2 in
         of_all (s.answers ++ answer) second.0 (subst (λ l. length l ≤ most_of_stream) (sym (all t)) (subst (λ n. n ≤ most_of_stream) (sym s.count) few))
-        (record { lines = s.lines; last = s.line; cut = record { split = all t ∙ s.cut.split; whole = s.cut.whole; open_end = s.cut.open_end }; between = first.0; whole = s.answers; ending = answer; answers = first.1; answer = due_stays (λ Due. IsAnswered Due first.0 s.line s.line answer second.0) old now s.session.rules s.session.kind second.1; joined = refl }))
+        (record { lines = s.lines; last = s.line; cut = record { split = all t ∙ s.cut.split; whole = s.cut.whole; open_end = s.cut.open_end }; between = first.0; whole = s.answers; ending = answer; answers = first.1; answer = answering_stays (λ answering. IsAnswered answering first.0 s.line s.line answer second.0) old now s.session.rules s.session.kind second.1; joined = refl }))
         (behind_answers taken'' answer w)
 
     -- the work stopped in a piece
@@ -161,15 +160,15 @@ module _ (gives takes : Bool) (old : SessionState) (left taken : List ℕ) where
         let front : IsTrue gives → left ≡ ended lines ++ (h.rest ++ (more ++ left'')) = λ t. given t ∙ ap (λ l. l ++ (more ++ left'')) split ∙ append_assoc (ended lines) h.rest (more ++ left'') in
         ends_stopped stop ((s.bytes ++ chunk) ++ more) (s.answers ++ h.answers)
         (λ t. given t ∙ sym (append_assoc (s.bytes ++ chunk) more left''))
-        (λ before here t.
+        (λ t before here.
         let first = s.session.stands before here in
         let second = h.due first.0 first.2 in
         of_lines (ended lines) (h.rest ++ (more ++ left'')) (s.answers ++ h.answers) second.0 (front t) (omega (arith, counted, few))
-        (record { lines = lines; rest = []; cut = record { split = sym (append-nil (ended lines)); whole = All-append LacksFeed s.lines h.lines s.cut.whole h.whole; open_end = All-nil (λ byte. byte ≡ feed → ⊥) }; answers = answers_append (IsDueOverWalks old) first.0 second.0 h.lines h.answers first.1 (due_stays (λ Due. AreAnswered Due first.0 h.lines h.answers second.0) old now s.session.rules s.session.kind second.1) }))
+        (record { lines = lines; rest = []; cut = record { split = sym (append-nil (ended lines)); whole = All-append LacksFeed s.lines h.lines s.cut.whole h.whole; open_end = All-nil (λ byte. byte ≡ feed → ⊥) }; answers = answers_append (answering_of old) first.0 second.0 h.lines h.answers first.1 (answering_stays (λ answering. AreAnswered answering first.0 h.lines h.answers second.0) old now s.session.rules s.session.kind second.1) }))
         (behind_answers taken'' h.answers h.written)
 
   -- there is no memory to begin with
   pub no_room : EndsAs gives takes old left taken old left taken (ending_of Memory)
   no_room = ends_stopped Memory [] [] (λ _. refl)
-      (λ before here t. of_lines [] left [] before refl (omega arith) (record { lines = []; rest = []; cut = record { split = refl; whole = All-nil LacksFeed; open_end = All-nil (λ byte. byte ≡ feed → ⊥) }; answers = none before }))
+      (λ t before here. of_lines [] left [] before refl (omega arith) (record { lines = []; rest = []; cut = record { split = refl; whole = All-nil LacksFeed; open_end = All-nil (λ byte. byte ≡ feed → ⊥) }; answers = none before }))
       (λ _. record { rest = []; sent = record { sent = []; split = refl; appended = sym (append-nil taken) } })

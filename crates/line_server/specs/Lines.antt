@@ -7,10 +7,7 @@ use Rattle.std.specs.Str.Lines.{strip_carriage_return}
 abbrev pub feed : ℕ
 feed = 10
 
--- the most bytes of a line, and of a stream
-abbrev pub most_of_line : ℕ
-most_of_line = 8192
-
+-- the most bytes of a stream
 abbrev pub most_of_stream : ℕ
 most_of_stream = 268435456
 
@@ -29,6 +26,7 @@ pub record AreCut (bytes : List ℕ) (lines : List (List ℕ)) (rest : List ℕ)
   pub whole : All LacksFeed lines
   pub open_end : LacksFeed rest
 
--- the text of a line that a line feed ends: the line without the carriage return that stands last in it, if one does
+-- The text of a line that a line feed ends: the line without the carriage return that stands last
+-- in it, if one does.
 abbrev pub text_of : List ℕ → List ℕ
 text_of line = strip_carriage_return line

@@ -2,18 +2,20 @@
 use Rattle.std.specs.Prelude.{◌≡◌, ℕ, ◌<◌, ◌≤◌, ◌-◌, Bool, true, false, IsTrue, List, [], ◌++◌, length, take, drop}
 use Rattle.std.specs.List.{All}
 use Rattle.way_io.specs.Pieces.{AppendsPrefix}
+use Rattle.command_text.specs.CommandLines.{most_of_line}
 use Rattle.session_core.specs.Sessions.{SessionState}
 use Rattle.line_server.specs.declared.reader.Reader.{Reader}
-use Rattle.line_server.specs.Lines.{LacksFeed, AreCut, ended, most_of_line}
+use Rattle.line_server.specs.Lines.{LacksFeed, AreCut, ended}
+use Rattle.line_server.specs.Outboxes.{HasSaid, HasBroken}
 use Rattle.line_server.specs.Sessions.{AnswersLine, AnswersLines, DuesLine, DuesLines}
 
 -- how many bytes are kept of the stream at a time
-abbrev pub room : ℕ
-room = 65536
+abbrev pub buffer_size : ℕ
+buffer_size = 65536
 
 -- The bytes of the buffer that are kept leave room for more.
 pub record IsReader (r : Reader) : Type 0 where
-  pub size : length r.buffer.items ≡ room
+  pub size : length r.buffer.items ≡ buffer_size
   pub few : r.kept ≤ most_of_line
 
 -- the bytes that were dropped of a line that is too long: none, unless the line is lost
@@ -37,40 +39,54 @@ pub record Keeps (r : Reader) (line : List ℕ) : Type 0 where
   pub empty : r.lost ≡ true → r.kept ≡ 0
   pub within : LacksFeed line
 
--- the session replied to a line with this text, and the reply was appended
-pub record HasReplied (old : SessionState) (line text before : List ℕ) (new : SessionState) (after : List ℕ) : Type 0 where
+-- the session answered a line with this text, and the answer was said
+pub record HasReplied (tells : Bool) (old : SessionState) (line text taken waiting : List ℕ)
+    (new : SessionState) (taken' waiting' : List ℕ) : Type 0 where
   pub answer : List ℕ
-  pub appended : after ≡ before ++ answer
+  pub said : HasSaid tells taken waiting answer taken' waiting'
   pub session : AnswersLine old new line text answer
 
--- The first replies of those that wait were written, and the others wait.
-pub record HasWritten (tells : Bool) (taken replies taken' replies' : List ℕ) : Type 0 where
-  pub sent : List ℕ
-  pub split : replies ≡ sent ++ replies'
-  pub written : IsTrue tells → taken' ≡ taken ++ sent
+-- it was not, and of the answer nothing or the beginning is written
+pub data HasFailed (tells : Bool) (old : SessionState)
+    (line text taken waiting taken' : List ℕ) : Type 0 where
+  nothing :
+      HasBroken tells taken waiting [] taken'
+      → HasFailed tells old line text taken waiting taken'
+  partly :
+      (answer : List ℕ)
+      → DuesLine old line text answer
+      → HasBroken tells taken waiting answer taken'
+      → HasFailed tells old line text taken waiting taken'
 
--- The lines among these bytes were answered, and all is written. `rest` is what stands behind the last line feed.
-pub record HasAnswered (tells : Bool) (old : SessionState) (bytes taken : List ℕ) (new : SessionState) (rest taken' : List ℕ) : Type 0 where
+-- The lines among these bytes were answered, and all is written.
+-- `rest` is what stands behind the last line feed.
+pub record HasAnsweredLines (tells : Bool) (old : SessionState) (bytes taken : List ℕ)
+    (new : SessionState) (rest taken' : List ℕ) : Type 0 where
   pub lines : List (List ℕ)
   pub cut : AreCut bytes lines rest
   pub answers : List ℕ
   pub session : AnswersLines old new lines answers
   pub written : IsTrue tells → taken' ≡ taken ++ answers
 
--- So it is, and the last `rest` of the bytes stand behind the last line feed; where they belong to a lost line, so does what was dropped.
-pub record HasComeTo (tells : Bool) (old : SessionState) (dropped bytes taken : List ℕ) (new : SessionState) (rest : ℕ) (lost : Bool) (taken' : List ℕ) : Type 0 where
+-- So it is, and the last `rest` of the bytes stand behind the last line feed.
+-- Where they belong to a lost line, so does what was dropped.
+pub record HasComeTo (tells : Bool) (old : SessionState) (dropped bytes taken : List ℕ)
+    (new : SessionState) (rest : ℕ) (lost : Bool) (taken' : List ℕ) : Type 0 where
   pub hidden : List ℕ
   pub are_dropped : AreDropped lost hidden
-  pub answered : HasAnswered tells old (dropped ++ bytes) taken new (hidden ++ behind rest bytes) taken'
+  pub answered :
+      HasAnsweredLines tells old (dropped ++ bytes) taken new (hidden ++ behind rest bytes) taken'
 
 -- So it is, and the reader keeps what stands behind the last line feed.
-pub record HasRead (tells : Bool) (old : SessionState) (bytes taken : List ℕ) (new : SessionState) (r : Reader) (taken' : List ℕ) : Type 0 where
+pub record HasRead (tells : Bool) (old : SessionState) (bytes taken : List ℕ)
+    (new : SessionState) (r : Reader) (taken' : List ℕ) : Type 0 where
   pub line : List ℕ
   pub keeps : Keeps r line
-  pub answered : HasAnswered tells old bytes taken new line taken'
+  pub answered : HasAnsweredLines tells old bytes taken new line taken'
 
 -- The work ended early: the beginning of what is due to some first lines is written.
-pub record HasStopped (tells : Bool) (old : SessionState) (bytes taken taken' : List ℕ) : Type 0 where
+pub record HasStopped (tells : Bool) (old : SessionState)
+    (bytes taken taken' : List ℕ) : Type 0 where
   pub lines : List (List ℕ)
   pub rest : List ℕ
   pub split : bytes ≡ ended lines ++ rest
@@ -79,13 +95,9 @@ pub record HasStopped (tells : Bool) (old : SessionState) (bytes taken taken' : 
   pub due : DuesLines old lines answers
   pub written : IsTrue tells → AppendsPrefix taken taken' answers
 
--- the last line, which no line feed ends, was answered
-pub record HasEnded (tells : Bool) (old : SessionState) (line taken : List ℕ) (new : SessionState) (taken' : List ℕ) : Type 0 where
+-- the last line, which no line feed ends, was answered, and all is written
+pub record HasEnded (tells : Bool) (old : SessionState) (line taken : List ℕ)
+    (new : SessionState) (taken' : List ℕ) : Type 0 where
   pub answer : List ℕ
   pub session : AnswersLine old new line line answer
   pub written : IsTrue tells → taken' ≡ taken ++ answer
-
--- it was not, and nothing or the beginning of the answer is written
-pub data HasFailed (tells : Bool) (old : SessionState) (line taken taken' : List ℕ) : Type 0 where
-  nothing : (IsTrue tells → taken' ≡ taken) → HasFailed tells old line taken taken'
-  partly : (answer : List ℕ) → DuesLine old line answer → (IsTrue tells → AppendsPrefix taken taken' answer) → HasFailed tells old line taken taken'

@@ -4,6 +4,7 @@
 mod answer;
 pub mod laws;
 mod lines;
+mod outbox;
 mod reader;
 mod stream;
 #[cfg(test)]

@@ -2,22 +2,19 @@
 ghost use Rattle.std.specs.Prelude.{◌≡◌, ◌≤◌, ◌∷◌, ◌++◌, length, IfSome, IfNone};
 ghost use Rattle.line_server.specs.Lines.{feed, LacksFeed, text_of};
 
+use command_text::cut_at;
+
 /// The bytes in front of the first line feed, and those behind it.
-#[tactic(auto, using(crate::proofs::Cutting::lacks_more, crate::proofs::Cutting::lacks_all, crate::proofs::Cutting::split_at_feed))]
 pub(crate) fn next_line(bytes: &[u8]) -> Option<(&[u8], &[u8])>
     ensures split { IfSome result (λ parts. bytes.now ≡ parts.0.now ++ feed ∷ parts.1.now) }
     ensures line { IfSome result (λ parts. LacksFeed parts.0.now) }
     ensures none { IfNone result (LacksFeed bytes.now) }
 {
-    for i in 0..bytes.len() {
-        if bytes[i] == b'\n' {
-            return Some((&bytes[..i], &bytes[i + 1..]));
-        }
-    }
-    None
+    cut_at(bytes, b'\n')
 }
 
-/// The text of a line that a line feed ends: the line without the carriage return that stands last in it, if one does.
+/// The text of a line that a line feed ends: the line without the carriage return that stands last
+/// in it, if one does.
 pub(crate) fn text_of(line: &[u8]) -> &[u8]
     ensures text { result.now ≡ text_of line.now }
     ensures within { length result.now ≤ length line.now }

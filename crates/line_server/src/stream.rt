@@ -1,14 +1,15 @@
 //! The stream from its source to its sink.
-ghost use Rattle.std.specs.Prelude.{◌≡◌, ◌≤◌, ◌<◌, ◌⊎◌, ◌++◌, [], ℕ, List, length, IsTrue};
+ghost use Rattle.std.specs.Prelude.{◌≡◌, ◌≤◌, ◌<◌, [], ℕ, List, length, IsTrue};
 ghost use Rattle.way_io.specs.Counts.{Rose};
-ghost use Rattle.session_core.specs.WalkSessions.{StandsForWalks, IsDueOverWalks};
+ghost use Rattle.session_core.specs.Sessions.{StandsForWalks};
 ghost use Rattle.line_server.specs.Lines.{most_of_stream};
-ghost use Rattle.line_server.specs.Outputs.{History};
-ghost use Rattle.line_server.specs.Sessions.{Continues};
+ghost use Rattle.reply_model.specs.Histories.{History};
+ghost use Rattle.line_server.specs.Sessions.{Continues, answering_of};
 ghost use Rattle.line_server.specs.Serving.{EndsAs, ending_of};
 ghost use Rattle.line_server.specs.Endings.{IsServed, IsCutOff, IsOverrun, IsBegun, GivesInOrder, TakesMore};
 
-use crate::reader::{Reader, Stop};
+use crate::outbox::{Outbox, Stop};
+use crate::reader::Reader;
 use session_core::Session;
 use std::alloc::Global;
 use way_io::{Sink, Source};
@@ -31,66 +32,115 @@ pub enum Ending {
     Memory,
 }
 
-/// Answers the lines of a stream, from its source to its sink, until the stream ends or something fails. The answers to all lines that have
-/// ended are written before more is read, so that whoever waits for an answer at the other end gets it.
+/// Answers the lines of a stream, from its source to its sink, until the stream ends or something
+/// fails. The answers to all lines that have ended are written before more is read, so that whoever
+/// waits for an answer at the other end gets it.
 ///
-/// A line ends at a line feed, and a carriage return in front of it belongs to the line's end. What stands behind the last line feed is a
-/// line too. A line of no bytes has no answer, one of over 8,192 bytes is answered `too long`, and one in no form `bad`.
+/// A line ends at a line feed, and a carriage return in front of it belongs to the line's end. What
+/// stands behind the last line feed is a line too. A line of no bytes has no answer, one of over
+/// 8,192 bytes is answered `too long`, and one in no form `bad`.
 pub fn serve<I: Source, O: Sink>(
     alloc: Global,
     session: &mut Session<'_>,
     input: &mut I,
     out: &mut O,
 ) -> Ending
-    // What stands at each ending, after each history for which the session stood. The session stands then for a longer one.
-    ensures done { IsTrue I.tells → IsTrue O.tells → result ≡ Ending.Done → Continues session.old session.new (λ before after. IsServed (IsDueOverWalks session.old) before (I.left input.old) (I.left input.new) (O.taken out.old) (O.taken out.new) after) }
-    ensures read_fault { IsTrue I.tells → IsTrue O.tells → result ≡ Ending.ReadFault → Continues session.old session.new (λ before after. IsCutOff (IsDueOverWalks session.old) before (I.left input.old) (I.left input.new) (O.taken out.old) (O.taken out.new) after) }
-    ensures input_too_long { IsTrue I.tells → IsTrue O.tells → result ≡ Ending.InputTooLong → Continues session.old session.new (λ before after. IsOverrun (IsDueOverWalks session.old) before (I.left input.old) (O.taken out.old) (O.taken out.new) after) }
-    ensures begun { IsTrue I.tells → IsTrue O.tells → (before : History) → StandsForWalks session.old before → IsBegun (IsDueOverWalks session.old) before (I.left input.old) (O.taken out.old) (O.taken out.new) }
+    // What stands at each ending, after each history for which the session stood.
+    // The session stands then for a longer one.
+    ensures done { IsTrue I.tells → IsTrue O.tells → result ≡ Ending.Done
+        → Continues session.old session.new (λ before after. IsServed (answering_of session.old)
+        before (I.left input.old) (I.left input.new)
+        (O.taken out.old) (O.taken out.new) after) }
+    ensures read_fault { IsTrue I.tells → IsTrue O.tells → result ≡ Ending.ReadFault
+        → Continues session.old session.new (λ before after. IsCutOff (answering_of session.old)
+        before (I.left input.old) (I.left input.new)
+        (O.taken out.old) (O.taken out.new) after) }
+    ensures input_too_long { IsTrue I.tells → IsTrue O.tells → result ≡ Ending.InputTooLong
+        → Continues session.old session.new (λ before after. IsOverrun (answering_of session.old)
+        before (I.left input.old) (O.taken out.old) (O.taken out.new) after) }
+    ensures begun { IsTrue I.tells → IsTrue O.tells
+        → (before : History) → StandsForWalks session.old before
+        → IsBegun (answering_of session.old)
+        before (I.left input.old) (O.taken out.old) (O.taken out.new) }
 
-    // Why it ended so. Of a read or a write that failed the count of faults tells.
-    ensures ended { IsTrue I.tells → result ≡ Ending.Done → (I.left input.new ≡ []) × (length (I.left input.old) ≤ most_of_stream) }
-    ensures overrun { IsTrue I.tells → result ≡ Ending.InputTooLong → most_of_stream < length (I.left input.old) }
-    ensures read_cause { result ≡ Ending.ReadFault → Rose (I.faults input.old) (I.faults input.new) }
+    // Why it ended so.
+    // Of a read or a write that failed the count of faults tells, which never falls.
+    ensures ended { IsTrue I.tells → result ≡ Ending.Done
+        → (I.left input.new ≡ []) × (length (I.left input.old) ≤ most_of_stream) }
+    ensures overrun { IsTrue I.tells → result ≡ Ending.InputTooLong
+        → most_of_stream < length (I.left input.old) }
+    ensures read_cause { result ≡ Ending.ReadFault
+        → Rose (I.faults input.old) (I.faults input.new) }
     ensures write_cause { result ≡ Ending.WriteFault → Rose (O.faults out.old) (O.faults out.new) }
-    ensures unbroken { result ≡ Ending.InputTooLong → O.faults out.new ≡ O.faults out.old }
+    ensures reads_later { I.faults input.old ≤ I.faults input.new }
+    ensures writes_later { O.faults out.old ≤ O.faults out.new }
 
     // No byte is lost or doubled, and what was written stays.
     ensures in_order { IsTrue I.tells → GivesInOrder (I.left input.old) (I.left input.new) }
     ensures kept { IsTrue O.tells → TakesMore (O.taken out.old) (O.taken out.new) }
 {
-    serve_lines(alloc, session, input, out)
+    let mut waiting = Vec::new(alloc);
+    serve_through(alloc, session, input, out, &mut waiting)
 }
 
-/// Answers the lines of a stream, and tells in one clause how that ended.
-fn serve_lines<I: Source, O: Sink>(
+/// Answers the lines of a stream, and tells in one clause how that ended. Nothing waits before.
+fn serve_through<I: Source, O: Sink>(
     alloc: Global,
     session: &mut Session<'_>,
     input: &mut I,
     out: &mut O,
+    waiting: &mut Vec<u8>,
 ) -> Ending
-    ensures ends { EndsAs I.tells O.tells session.old (I.left input.old) (O.taken out.old) session.new (I.left input.new) (O.taken out.new) result }
-    ensures read_cause { result ≡ Ending.ReadFault → Rose (I.faults input.old) (I.faults input.new) }
+    requires written { waiting.old.items ≡ [] }
+    ensures ends { EndsAs I.tells O.tells
+        session.old (I.left input.old) (O.taken out.old)
+        session.new (I.left input.new) (O.taken out.new) result }
+    ensures read_cause { result ≡ Ending.ReadFault
+        → Rose (I.faults input.old) (I.faults input.new) }
     ensures write_cause { result ≡ Ending.WriteFault → Rose (O.faults out.old) (O.faults out.new) }
-    ensures unbroken { result ≡ Ending.InputTooLong → O.faults out.new ≡ O.faults out.old }
+    ensures reads_later { I.faults input.old ≤ I.faults input.new }
+    ensures writes_later { O.faults out.old ≤ O.faults out.new }
+{
+    let mut outbox = Outbox::new(out, waiting);
+    serve_lines(alloc, session, input, &mut outbox)
+}
+
+/// Answers the lines of a stream into an outbox, in which nothing waits before.
+fn serve_lines<I: Source, O: Sink>(
+    alloc: Global,
+    session: &mut Session<'_>,
+    input: &mut I,
+    outbox: &mut Outbox<'_, O>,
+) -> Ending
+    requires written { outbox.old.waiting.now.items ≡ [] }
+    ensures same_sink { outbox.new.sink.ghost_name ≡ outbox.old.sink.ghost_name }
+    ensures same_waiting { outbox.new.waiting.ghost_name ≡ outbox.old.waiting.ghost_name }
+    ensures ends { EndsAs I.tells O.tells
+        session.old (I.left input.old) (O.taken outbox.old.sink.now)
+        session.new (I.left input.new) (O.taken outbox.new.sink.now) result }
+    ensures read_cause { result ≡ Ending.ReadFault
+        → Rose (I.faults input.old) (I.faults input.new) }
+    ensures write_cause { result ≡ Ending.WriteFault
+        → Rose (O.faults outbox.old.sink.now) (O.faults outbox.new.sink.now) }
+    ensures reads_later { I.faults input.old ≤ I.faults input.new }
+    ensures writes_later { O.faults outbox.old.sink.now ≤ O.faults outbox.new.sink.now }
 {
     let Ok(mut reader) = Reader::new(alloc) else {
         return Ending::Memory;
     };
-    let mut replies = Vec::new(alloc);
     let mut total = 0;
     loop {
         let Ok(count) = reader.read(input) else {
             return Ending::ReadFault;
         };
         if count == 0 {
-            if let Err(stop) = reader.finish(alloc, session, &mut replies, out) {
+            if let Err(stop) = reader.finish(alloc, session, outbox) {
                 return ending_of(stop);
             }
             return Ending::Done;
         }
         let fresh = count.min(MOST - total);
-        if let Err(stop) = reader.answer(alloc, session, fresh, &mut replies, out) {
+        if let Err(stop) = reader.answer(alloc, session, fresh, outbox) {
             return ending_of(stop);
         }
         if fresh < count {

@@ -1,35 +1,13 @@
 // Streams over sources and sinks in memory, in the tree of pentagons, four at a corner.
-ghost use Rattle.std.specs.Prelude.{◌≤◌, length, IfOk, IfSome};
+ghost use Rattle.std.specs.Prelude.{◌≤◌, length};
 
-use crate::{Ending, serve};
-use rules_file::read_rules;
+use crate::{Ending, laws, serve};
+use sample_tilings::pentagons;
 use session_core::Session;
 use std::alloc::{AllocError, Global};
 use std::test::Fail;
-use structure_check::{Rules, check};
-use tess_text::read_tess;
+use structure_check::Rules;
 use way_io::{FillSource, MemSink, MemSource};
-
-const TESS: &str = "tess 1\nkind 0 5 1\njoin 0 0 0 0\ncorner 0 0 4\n";
-
-const RULES: &str = r#"{"version":1,"scale":1,"roots":[0],
-"corners":[{"h":[0,-1,-2,-1],"outer":[0,1],"rank":0}],
-"states":[
-{"kind":0,"off":0,"rules":[1,1,1,1,1],"claims":[[0,2],[0,2],[0,2],[0,2],[0,2]]},
-{"kind":0,"off":0,"rules":["P","R",1,1,2],"claims":[[0,3],[0,2],[0,2],[0,2],[0,1]]},
-{"kind":0,"off":0,"rules":["P","R",1,2,"L"],"claims":[[0,3],[0,2],[0,2],[0,1],[0,0]]}]}"#;
-
-fn pentagons(alloc: Global) -> Option<Rules>
-    ensures { IfSome result (λ rules. 1 ≤ length rules.kinds) }
-{
-    let tess = read_tess(alloc, TESS.as_bytes()).ok()?;
-    let automaton = read_rules(alloc, RULES.as_bytes()).ok()?;
-    let rules = check(tess, automaton).ok()?;
-    if rules.tessellation().kinds() == 0 {
-        return None;
-    }
-    Some(rules)
-}
 
 // A stream, the reads of it that fail, how it ends and what is written.
 type Row = (&'static [u8], &'static [u32], Ending, &'static [u8]);
@@ -83,6 +61,8 @@ fn lines_are_answered(rt: HostRuntime) -> Result<(), Fail> {
     let Some(rules) = pentagons(alloc) else {
         panic!(rt; "no rules");
     };
+    laws::outputs();
+    laws::readings();
     for row in &WHOLE {
         for step in 1..12 {
             assert!(rt; ends(alloc, &rules, row, step)?);
@@ -114,6 +94,7 @@ fn a_write_that_fails_ends_the_stream(rt: HostRuntime) -> Result<(), Fail> {
     let Some(rules) = pentagons(alloc) else {
         panic!(rt; "no rules");
     };
+    // The sink takes four bytes a write, and its third write fails: in the midst of a reply.
     let mut session = Session::new(alloc, &rules, 0)?;
     let mut input = MemSource::new(alloc, b"new 0\nnew 0\nat 0\n", 100, &[])?;
     let mut out = MemSink::new(alloc, 200, 4, &[3])?;
@@ -122,6 +103,30 @@ fn a_write_that_fails_ends_the_stream(rt: HostRuntime) -> Result<(), Fail> {
         Ending::WriteFault
     );
     assert_eq!(rt; out.taken(), b"ok\ntaken".as_slice());
+    Ok(())
+}
+
+#[test]
+fn what_waits_is_written_when_it_is_much(rt: HostRuntime) -> Result<(), Fail> {
+    let alloc = rt.alloc();
+    let Some(rules) = pentagons(alloc) else {
+        panic!(rt; "no rules");
+    };
+    // The answers to the 32,500 lines of one piece have 130,000 bytes. The sink has room for
+    // 100,001, so that its second write, of what waits at the end of the piece, fails in the midst.
+    let mut stream = Vec::new(alloc);
+    for _line in 0..32_500 {
+        stream.extend_from_slice(b"x\n")?;
+    }
+    let mut session = Session::new(alloc, &rules, 0)?;
+    let mut input = MemSource::new(alloc, &stream, 65_000, &[])?;
+    let mut out = MemSink::new(alloc, 100_001, 30_000, &[])?;
+    assert_eq!(rt;
+        serve(alloc, &mut session, &mut input, &mut out),
+        Ending::WriteFault
+    );
+    assert_eq!(rt; out.taken().len(), 100_001);
+    assert!(rt; out.taken().ends_with(b"bad\nb"));
     Ok(())
 }
 

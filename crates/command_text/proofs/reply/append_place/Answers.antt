@@ -1,4 +1,4 @@
-use Rattle.command_text.proofs.Strips.{begins_more, begins_on, on_err}
+use Rattle.command_text.proofs.Begins.{begins_more, begins_on, on_err}
 use Rattle.command_text.proofs.reply.append_place.Goals as goal
 
 pub returns-in_err-append_number-clause-kept : goal.returns-in_err-append_number-clause-kept

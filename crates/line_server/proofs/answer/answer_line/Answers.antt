@@ -1,31 +1,70 @@
-use Rattle.std.proofs.Common.{◌≢◌, ◌≤◌, [], Err, length, ◌++◌, ◌∙◌, ap, arith}
+use Rattle.std.proofs.Common.{◌≢◌, ◌≤◌, [], Err, length, ◌∙◌, ap, arith}
 use Rattle.std.proofs.lemmas.Bool.Decides.{nat_tests}
-use Rattle.line_server.specs.Lines.{most_of_line}
-use Rattle.line_server.proofs.Answering.{on_ok, on_extended, nothing, says_too_long, says_nothing, says_bad, replies}
+use Rattle.command_text.specs.CommandLines.{most_of_line}
+use Rattle.line_server.specs.Outputs.{too_long_text, bad_text}
+use Rattle.line_server.proofs.Answering.{on_ok, on_err, then_err, no_bytes, replies_so, fails_so, says_nothing, fails_before, is_too_long, is_bad, replies, fails_replying, numbers_told}
+use Rattle.line_server.proofs.Saying.{says_same, breaks_same}
 use Rattle.line_server.proofs.answer.answer_line.Goals as goal
 
-pub returns-then-line-gt-LONGEST_LINE : goal.returns-then-line-gt-LONGEST_LINE
-returns-then-line-gt-LONGEST_LINE c =
-    on_extended c.extend_from_slice.result c.args.replies.now.items _ _ c.extend_from_slice.ensures.items (λ e. says_too_long _ _ _ _ _ c.if-line-gt-LONGEST_LINE.true (e ∙ ap (λ ys. c.args.replies.now.items ++ ys) c.too_long_line.ensures))
+pub returns-then-line-gt-LONGEST_LINE-clause-replied :
+    goal.returns-then-line-gt-LONGEST_LINE-clause-replied
+returns-then-line-gt-LONGEST_LINE-clause-replied g c =
+    on_ok c.say.result
+    (λ said. replies_so _ _ _ _ _ _ too_long_text _ _ (is_too_long c.args.session.now _ _ c.if-line-gt-LONGEST_LINE.true) (says_same _ _ _ _ _ _ _ c.too_long_line.ensures said))
+    c.say.ensures.said
 
-pub returns-then-is_empty : goal.returns-then-is_empty
-returns-then-is_empty c =
-    let short : length c.args.line.now ≤ most_of_line = omega (arith, c.if-line-gt-LONGEST_LINE.false) in
-    says_nothing _ _ _ _ short (nothing _ (grind (arith, nat_tests)))
+pub returns-then-line-gt-LONGEST_LINE-clause-failed :
+    goal.returns-then-line-gt-LONGEST_LINE-clause-failed
+returns-then-line-gt-LONGEST_LINE-clause-failed g c =
+    then_err c.say.result
+    (λ broken. fails_so _ _ _ _ _ _ too_long_text _ (is_too_long c.args.session.now _ _ c.if-line-gt-LONGEST_LINE.true) (breaks_same _ _ _ _ _ _ c.too_long_line.ensures broken))
+    c.say.ensures.broken
 
-pub returns-in_ok-reply-in-Ok : goal.returns-in_ok-reply-in-Ok
-returns-in_ok-reply-in-Ok c =
-    let short : length c.args.line.now ≤ most_of_line = omega (arith, c.if-line-gt-LONGEST_LINE.false) in
-    on_ok c.write_reply.result (replies _ _ _ _ _ _ _ _ short c.in-Ok.ensures.spelt c.in_ok-reply-in-Ok.ensures.due_over_walks c.in_ok-reply-in-Ok.ensures.stands_over_walks c.apply.ensures.rules c.apply.ensures.kind) c.write_reply.ensures.written
+pub returns-then-is_empty-clause-replied : goal.returns-then-is_empty-clause-replied
+returns-then-is_empty-clause-replied g c =
+    let short : length c.args.line.now ≤ most_of_line =
+    omega (arith, c.if-line-gt-LONGEST_LINE.false) in
+    says_nothing _ _ _ _ _ _ short (no_bytes _ (grind (arith, nat_tests)))
 
-pub returns-in-Err-TooLong : goal.returns-in-Err-TooLong
-returns-in-Err-TooLong c =
-    let long = c.read_line.ensures.too_long.0 (c.in-Err-TooLong.is ∙ ap Err c.in-Err-TooLong.field-0-is) in
-    absurd (omega (arith, long, c.requires, c.if-line-gt-LONGEST_LINE.false))
+pub apply-requires : goal.apply-requires
+apply-requires g c = numbers_told _ _ c.in-Ok.ensures.spelt
 
-pub returns-in-Err-Bad : goal.returns-in-Err-Bad
-returns-in-Err-Bad c =
-    let short : length c.args.line.now ≤ most_of_line = omega (arith, c.if-line-gt-LONGEST_LINE.false) in
+pub returns-in_err-reply-in-Ok-clause-failed : goal.returns-in_err-reply-in-Ok-clause-failed
+returns-in_err-reply-in-Ok-clause-failed g c =
+    on_err c.from_residual.result (fails_before _ _ _ _ _ _)
+
+pub returns-in_ok-reply-in-Ok-clause-replied : goal.returns-in_ok-reply-in-Ok-clause-replied
+returns-in_ok-reply-in-Ok-clause-replied g c =
+    let short : length c.args.line.now ≤ most_of_line =
+    omega (arith, c.if-line-gt-LONGEST_LINE.false) in
+    on_ok c.say_reply.result
+    (replies _ _ _ _ _ _ _ _ _ short c.in-Ok.ensures.spelt c.in_ok-reply-in-Ok.ensures.due_over_walks _ _ c.in_ok-reply-in-Ok.ensures.stands_over_walks c.apply.ensures.rules c.apply.ensures.kind)
+    c.say_reply.ensures.said
+
+pub returns-in_ok-reply-in-Ok-clause-failed : goal.returns-in_ok-reply-in-Ok-clause-failed
+returns-in_ok-reply-in-Ok-clause-failed g c =
+    let short : length c.args.line.now ≤ most_of_line =
+    omega (arith, c.if-line-gt-LONGEST_LINE.false) in
+    then_err c.say_reply.result
+    (fails_replying _ _ c.apply.new.self _ _ _ _ _ _ short c.in-Ok.ensures.spelt c.in_ok-reply-in-Ok.ensures.due_over_walks _)
+    c.say_reply.ensures.broken
+
+pub returns-in-Err-Bad-clause-replied : goal.returns-in-Err-Bad-clause-replied
+returns-in-Err-Bad-clause-replied g c =
+    let short : length c.args.line.now ≤ most_of_line =
+    omega (arith, c.if-line-gt-LONGEST_LINE.false) in
     let told = c.read_line.ensures.bad (c.in-Err-Bad.is ∙ ap Err c.in-Err-Bad.field-0-is) in
     let some : c.args.text.now ≢ [] = λ e. absurd (grind (arith, nat_tests)) in
-    on_extended c.extend_from_slice-in-Err-Bad.result c.args.replies.now.items _ _ c.extend_from_slice-in-Err-Bad.ensures.items (λ e. says_bad _ _ _ _ _ short some told.1 (e ∙ ap (λ ys. c.args.replies.now.items ++ ys) c.bad_line.ensures))
+    on_ok c.say-in-Err-Bad.result
+    (λ said. replies_so _ _ _ _ _ _ bad_text _ _ (is_bad c.args.session.now _ _ short some told.1) (says_same _ _ _ _ _ _ _ c.bad_line.ensures said))
+    c.say-in-Err-Bad.ensures.said
+
+pub returns-in-Err-Bad-clause-failed : goal.returns-in-Err-Bad-clause-failed
+returns-in-Err-Bad-clause-failed g c =
+    let short : length c.args.line.now ≤ most_of_line =
+    omega (arith, c.if-line-gt-LONGEST_LINE.false) in
+    let told = c.read_line.ensures.bad (c.in-Err-Bad.is ∙ ap Err c.in-Err-Bad.field-0-is) in
+    let some : c.args.text.now ≢ [] = λ e. absurd (grind (arith, nat_tests)) in
+    then_err c.say-in-Err-Bad.result
+    (λ broken. fails_so _ _ _ _ _ _ bad_text _ (is_bad c.args.session.now _ _ short some told.1) (breaks_same _ _ _ _ _ _ c.bad_line.ensures broken))
+    c.say-in-Err-Bad.ensures.broken

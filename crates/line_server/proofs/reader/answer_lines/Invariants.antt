@@ -1,14 +1,21 @@
--- The lines in front of the rest were answered, and their answers are written or wait.
-use Rattle.std.proofs.Common.{◌≡◌, ℕ, List, ◌++◌, length}
+-- The lines in front of the rest were answered, and their answers were said.
+use Rattle.std.proofs.Common.{◌≡◌, ◌≤◌, ℕ, List, ◌++◌, length}
 use Rattle.line_server.specs.Readers.{AreDropped}
 use Rattle.line_server.proofs.Going.{Going}
 use Rattle.line_server.proofs.reader.answer_lines.Given as goal
 
 abbrev pub invariant-loop-line : goal.invariant-loop-line
 invariant-loop-line g l = record {
-  going : (dropped : List ℕ) → AreDropped l.initial.lost dropped → Going g.O.Sink.tells l.initial.session dropped l.bytes (g.O.Sink.taken l.initial.out) l.session l.lost l.rest l.replies.items (g.O.Sink.taken l.out);
+  same_sink : l.outbox.sink.ghost_name ≡ l.initial.outbox.sink.ghost_name;
+  same_waiting : l.outbox.waiting.ghost_name ≡ l.initial.outbox.waiting.ghost_name;
+  going :
+      (dropped : List ℕ)
+      → AreDropped l.initial.lost dropped
+      → Going g.O.Sink.tells l.initial.session dropped l.bytes
+      (g.O.Sink.taken l.initial.outbox.sink.now) l.session l.lost l.rest
+      (g.O.Sink.taken l.outbox.sink.now) l.outbox.waiting.now.items;
   front : (front : List ℕ) × (l.bytes ≡ front ++ l.rest);
-  uncounted : g.O.Sink.faults l.out ≡ g.O.Sink.faults l.initial.out;
+  later : g.O.Sink.faults l.initial.outbox.sink.now ≤ g.O.Sink.faults l.outbox.sink.now;
 }
 
 abbrev pub decreases-loop-line : goal.decreases-loop-line

@@ -1,5 +1,5 @@
 -- What was read is answered up to the last line feed, and the count of the bytes is within the limit.
-use Rattle.std.proofs.Common.{◌≡◌, ◌≤◌, ◌-◌}
+use Rattle.std.proofs.Common.{◌≡◌, ◌≤◌, ◌-◌, []}
 use Rattle.line_server.specs.Lines.{most_of_stream}
 use Rattle.line_server.specs.Readers.{IsReader}
 use Rattle.line_server.proofs.Serving.{Serving}
@@ -7,11 +7,16 @@ use Rattle.line_server.proofs.stream.serve_lines.Given as goal
 
 abbrev pub invariant-loop-count : goal.invariant-loop-count
 invariant-loop-count g l = record {
+  same_sink : l.outbox.sink.ghost_name ≡ l.initial.outbox.sink.ghost_name;
+  same_waiting : l.outbox.waiting.ghost_name ≡ l.initial.outbox.waiting.ghost_name;
   shape : IsReader l.reader;
-  serving : Serving g.I.Source.tells g.O.Sink.tells l.initial.session (g.I.Source.left l.initial.input) (g.O.Sink.taken l.initial.out) l.session l.reader (g.I.Source.left l.input) (g.O.Sink.taken l.out) l.total;
+  written : l.outbox.waiting.now.items ≡ [];
+  serving : Serving g.I.Source.tells g.O.Sink.tells l.initial.session
+      (g.I.Source.left l.initial.input) (g.O.Sink.taken l.initial.outbox.sink.now) l.session l.reader
+      (g.I.Source.left l.input) (g.O.Sink.taken l.outbox.sink.now) l.total;
   few : l.total ≤ most_of_stream;
-  unfailing : g.I.Source.faults l.input ≡ g.I.Source.faults l.initial.input;
-  unbroken : g.O.Sink.faults l.out ≡ g.O.Sink.faults l.initial.out;
+  reads_later : g.I.Source.faults l.initial.input ≤ g.I.Source.faults l.input;
+  writes_later : g.O.Sink.faults l.initial.outbox.sink.now ≤ g.O.Sink.faults l.outbox.sink.now;
 }
 
 abbrev pub decreases-loop-count : goal.decreases-loop-count

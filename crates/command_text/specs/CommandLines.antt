@@ -1,0 +1,72 @@
+-- The lines that spell commands: a word, and then words that say what the command is told.
+use Rattle.std.specs.Prelude.{◌≡◌, ℕ, ◌<◌, List, [], ◌∷◌, codes}
+use Rattle.std.specs.List.{join_with_byte}
+use Rattle.short_numbers.specs.Numbers.{IsNumber}
+use Rattle.tile_model.specs.declared.Letter.{Letter}
+use Rattle.reply_model.specs.declared.Command.{Command}
+use Rattle.reply_model.specs.declared.Command.TheVariants.{New, Go, At, Same}
+use Rattle.reply_model.specs.Histories.{most_walkers}
+use Rattle.tile_model.specs.WalkTexts.{walk_text}
+
+-- the most bytes of a line
+abbrev pub most_of_line : ℕ
+most_of_line = 8192
+
+-- the byte of a space
+abbrev pub space : ℕ
+space = 32
+
+-- words with one space between each two
+abbrev pub spaced : List (List ℕ) → List ℕ
+spaced words = join_with_byte space words
+
+-- one to nine digits that write the number of a walker
+pub record IsWalkerNumber (digits : List ℕ) (w : ℕ) : Type 0 where
+  pub number : IsNumber digits w
+  pub below : w < most_walkers
+
+-- what a command is told, by its shape
+pub data Operands : Type 0 where
+  one_walker : (w : ℕ) → Operands
+  two_walkers : (w v : ℕ) → Operands
+  walker_and_walk : (w : ℕ) (walk : List Letter) → Operands
+
+-- the words that tell it
+pub data AreTold : Operands → List (List ℕ) → Type 0 where
+  by_number :
+      (w : ℕ) (digits : List ℕ)
+      → IsWalkerNumber digits w
+      → AreTold (one_walker w) (digits ∷ [])
+  by_numbers :
+      (w v : ℕ) (first second : List ℕ)
+      → IsWalkerNumber first w
+      → IsWalkerNumber second v
+      → AreTold (two_walkers w v) (first ∷ second ∷ [])
+  by_number_and_letters :
+      (w : ℕ) (walk : List Letter) (digits : List ℕ)
+      → IsWalkerNumber digits w
+      → AreTold (walker_and_walk w walk) (digits ∷ walk_text walk ∷ [])
+
+-- the word that the line of a command begins with
+abbrev pub word_of : Command → List ℕ
+word_of (New w) = codes "new"
+word_of (Go w walk) = codes "go"
+word_of (At w) = codes "at"
+word_of (Same w v) = codes "same"
+
+-- what the command is told behind it
+abbrev pub operands_of : Command → Operands
+operands_of (New w) = one_walker w
+operands_of (Go w walk) = walker_and_walk w walk
+operands_of (At w) = one_walker w
+operands_of (Same w v) = two_walkers w v
+
+-- the line spells the command
+pub record IsSpelling (line : List ℕ) (c : Command) : Type 0 where
+  pub words : List (List ℕ)
+  pub told : AreTold (operands_of c) words
+  pub text : line ≡ spaced (word_of c ∷ words)
+
+-- the line spells no command
+abbrev pub SpellsNothing : List ℕ → Type 0
+SpellsNothing line = (c : Command) → ¬ (IsSpelling line c)
