@@ -182,10 +182,10 @@ impl<'r> Session<'r> {
         requires { w < most_walkers }
         ensures { HasAnswered self.now (Command.Level w) result self.now }
     {
-        let Some(spot) = self.spot(w) else {
-            return Reply::NoWalker;
-        };
-        Reply::Level(spot.level() as u32)
+        match self.spot(w) {
+            Some(spot) => Reply::Level(spot.level() as u32),
+            None => Reply::NoWalker,
+        }
     }
 
     /// How many crossings walker `v` is away from walker `w`.
