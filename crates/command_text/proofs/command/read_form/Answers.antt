@@ -33,8 +33,27 @@ returns-in_err-w-2-clause-bad c = λ _.
     tells_nothing c.args.line.now c.in-Some.word.now c.in-Some.rest.now c.in-Some.ensures.split
     c.in-Some.ensures.first (codes "same") is c.in_err-w-2.ensures.bad
 
+pub returns-in_err-read_walker-3-clause-bad : goal.returns-in_err-read_walker-3-clause-bad
+returns-in_err-read_walker-3-clause-bad c = λ _.
+    let is : c.in-Some.word.now ≡ codes "level" = search rules in
+    tells_nothing c.args.line.now c.in-Some.word.now c.in-Some.rest.now c.in-Some.ensures.split
+    c.in-Some.ensures.first (codes "level") is c.in_err-read_walker-3.ensures.bad
+
+pub returns-in_err-w-3-clause-bad : goal.returns-in_err-w-3-clause-bad
+returns-in_err-w-3-clause-bad c = λ _.
+    let is : c.in-Some.word.now ≡ codes "dist" = search rules in
+    tells_nothing c.args.line.now c.in-Some.word.now c.in-Some.rest.now c.in-Some.ensures.split
+    c.in-Some.ensures.first (codes "dist") is c.in_err-w-3.ensures.bad
+
+pub returns-in_err-w-4-clause-bad : goal.returns-in_err-w-4-clause-bad
+returns-in_err-w-4-clause-bad c = λ _.
+    let is : c.in-Some.word.now ≡ codes "path" = search rules in
+    tells_nothing c.args.line.now c.in-Some.word.now c.in-Some.rest.now c.in-Some.ensures.split
+    c.in-Some.ensures.first (codes "path") is c.in_err-w-4.ensures.bad
+
 pub returns-clause-bad : goal.returns-clause-bad
 returns-clause-bad c = λ _.
     unknown c.args.line.now c.in-Some.word.now c.in-Some.rest.now c.in-Some.ensures.split
     c.in-Some.ensures.first (λ e. search (rules, e)) (λ e. search (rules, e))
+    (λ e. search (rules, e)) (λ e. search (rules, e)) (λ e. search (rules, e))
     (λ e. search (rules, e)) (λ e. search (rules, e))
