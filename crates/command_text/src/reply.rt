@@ -28,32 +28,31 @@ pub fn write_reply(out: &mut Vec<u8>, x: &Reply) -> Result<(), AllocError>
     ensures written { OnOk result (out.new.items ≡ out.old.items ++ reply_text x.now) }
     ensures unchanged { OnErr result (out.new.items ≡ out.old.items) }
 {
-    match x {
-        Reply::Done => out.extend_from_slice(b"ok\n"),
-        Reply::At { name, spin, kind } => write_place(out, name, *spin, *kind),
-        Reply::Yes => out.extend_from_slice(b"yes\n"),
-        Reply::No => out.extend_from_slice(b"no\n"),
-        Reply::Level(crossings) => write_number(out, b"level", *crossings),
-        Reply::Dist(crossings) => write_number(out, b"dist", *crossings),
-        Reply::Path(walk) => write_path(out, walk),
-        Reply::NoWalker => out.extend_from_slice(b"no walker\n"),
-        Reply::Taken => out.extend_from_slice(b"taken\n"),
-        Reply::Deep => out.extend_from_slice(b"deep\n"),
-    }
-}
-
-/// Appends the line of a word and a number, or leaves the bytes as they were.
-fn write_number(out: &mut Vec<u8>, word: &[u8], number: u32) -> Result<(), AllocError>
-    ensures written { OnOk result
-        (out.new.items ≡ out.old.items ++ number_words word.now number ++ line_feed) }
-    ensures unchanged { OnErr result (out.new.items ≡ out.old.items) }
-{
     let start = out.len();
-    let written = append_counted(out, word, number);
+    let written = append_reply(out, x);
     if written.is_err() {
         out.truncate(start);
     }
     written
+}
+
+/// Appends the line of a reply, or some bytes.
+fn append_reply(out: &mut Vec<u8>, x: &Reply) -> Result<(), AllocError>
+    ensures written { OnOk result (out.new.items ≡ out.old.items ++ reply_text x.now) }
+    ensures kept { OnErr result (Begins out.new.items out.old.items) }
+{
+    match x {
+        Reply::Done => out.extend_from_slice(b"ok\n"),
+        Reply::At { name, spin, kind } => append_place(out, name, *spin, *kind),
+        Reply::Yes => out.extend_from_slice(b"yes\n"),
+        Reply::No => out.extend_from_slice(b"no\n"),
+        Reply::Level(crossings) => append_counted(out, b"level", *crossings),
+        Reply::Dist(crossings) => append_counted(out, b"dist", *crossings),
+        Reply::Path(walk) => append_path(out, walk),
+        Reply::NoWalker => out.extend_from_slice(b"no walker\n"),
+        Reply::Taken => out.extend_from_slice(b"taken\n"),
+        Reply::Deep => out.extend_from_slice(b"deep\n"),
+    }
 }
 
 /// Appends the line of a word and a number, or some bytes.
@@ -68,20 +67,6 @@ fn append_counted(out: &mut Vec<u8>, word: &[u8], number: u32) -> Result<(), All
     Ok(())
 }
 
-/// Appends the line of a walk, or leaves the bytes as they were.
-fn write_path(out: &mut Vec<u8>, walk: &Walk) -> Result<(), AllocError>
-    ensures written { OnOk result
-        (out.new.items ≡ out.old.items ++ path_words walk.now ++ line_feed) }
-    ensures unchanged { OnErr result (out.new.items ≡ out.old.items) }
-{
-    let start = out.len();
-    let written = append_path(out, walk);
-    if written.is_err() {
-        out.truncate(start);
-    }
-    written
-}
-
 /// Appends the line of a walk, or some bytes.
 fn append_path(out: &mut Vec<u8>, walk: &Walk) -> Result<(), AllocError>
     ensures written { OnOk result
@@ -93,20 +78,6 @@ fn append_path(out: &mut Vec<u8>, walk: &Walk) -> Result<(), AllocError>
     out.extend_from_slice(&text)?;
     out.push(b'\n')?;
     Ok(())
-}
-
-/// Appends the line of a place, or leaves the bytes as they were.
-fn write_place(out: &mut Vec<u8>, name: &Name, spin: u8, kind: u8) -> Result<(), AllocError>
-    ensures written { OnOk result
-        (out.new.items ≡ out.old.items ++ place_words name.now spin kind ++ line_feed) }
-    ensures unchanged { OnErr result (out.new.items ≡ out.old.items) }
-{
-    let start = out.len();
-    let written = append_place(out, name, spin, kind);
-    if written.is_err() {
-        out.truncate(start);
-    }
-    written
 }
 
 /// Appends the line of a place, or some bytes.
