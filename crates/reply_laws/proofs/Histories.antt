@@ -94,9 +94,9 @@ module _ (kinds : List TileKind) (k : ℕ) (r : Reading) where
       Due g (Path w v) (Along (way_along_name (end_type kinds k (walk_of h w)).1 p.name))
   way_alike h g w v p s e d n l =
       let first = subst (λ u. r.HasPlace (end_type kinds k (walk_of h w)).0
-          (way_between kinds k (walk_of h w) u) p) (s.walks v) l in
+      (way_between kinds k (walk_of h w) u) p) (s.walks v) l in
       let both = subst (λ u. r.HasPlace (end_type kinds k u).0
-          (way_between kinds k u (walk_of g v)) p) (s.walks w) first in
+      (way_between kinds k u (walk_of g v)) p) (s.walks w) first in
       subst (λ u. Due g (Path w v) (Along (way_along_name (end_type kinds k u).1 p.name)))
       (sym (s.walks w)) (path_told w v p (s.there w e) (s.there v d)
       (λ f. n (tree_path_alike g h w v (sym (s.walks w)) (sym (s.walks v)) f)) both)

@@ -53,7 +53,7 @@ module _ (kinds : List TileKind) (k : ℕ) (reading : Reading) (history : Histor
   abbrev pub HasPlaceFrom : ℕ → ℕ → Position → Type 0
   HasPlaceFrom w v p =
       reading.HasPlace (end_type kinds k (walk_of history w)).0
-          (way_between kinds k (walk_of history w) (walk_of history v)) p
+      (way_between kinds k (walk_of history w) (walk_of history v)) p
 
   -- the way from where w stands along the name of that place
   abbrev pub along_name_of : ℕ → Position → Reply
