@@ -1,4 +1,4 @@
-// Two streams of commands with the replies that are known from outside.
+// Three streams of commands with the replies that are known from outside.
 // Walkers on all ways of a few steps over five tessellations, compared with a slow program that knows no rules.
 ghost use Rattle.std.specs.Prelude.{◌≤◌, length, IsTrue};
 ghost use Rattle.session_core.specs.Sessions.{HasNumbers};
@@ -50,7 +50,7 @@ fn around(alloc: Global) -> Result<Vec<(Command, &'static str)>, AllocError> {
     Ok(stream)
 }
 
-// Two walkers whose way from one to the other is no longer than their names differ.
+// How far two walkers are from each other and from the root, and shortest walks between them.
 fn apart(alloc: Global) -> Result<Vec<(Command, &'static str)>, AllocError> {
     let mut stream = Vec::new(alloc);
     stream.push((Command::Dist(0, 1), "no walker"))?;
