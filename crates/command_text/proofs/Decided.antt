@@ -10,7 +10,7 @@ use Rattle.tile_model.specs.declared.Letter.TheVariants.{L, R, X}
 use Rattle.tile_model.specs.WalkTexts.{letter_code, walk_text}
 use Rattle.reply_model.specs.declared.Command.{Command}
 use Rattle.reply_model.specs.Histories.{most_walkers}
-use Rattle.reply_model.specs.declared.Command.TheVariants.{New, Go, At, Same}
+use Rattle.reply_model.specs.declared.Command.TheVariants.{New, Go, At, Same, Level, Dist, Path}
 use Rattle.command_text.specs.CommandLines.{space, IsWalkerNumber, one_walker, two_walkers, walker_and_walk, word_of, operands_of, IsSpelling, SpellsNothing}
 use Rattle.command_text.specs.Words.{Lacks, IsInFront, AreToldBy, walker_alone, walkers, walker_with_walk, TellNothing}
 use Rattle.command_text.proofs.Splits.{lacks_none, one_split}
@@ -240,21 +240,31 @@ module _ (law : (digits : List ℕ) (n : ℕ) → IsNumber digits n ↔ (number 
 
   by_word :
       (line word rest : List ℕ) → line ≡ word ++ space ∷ rest → Lacks space word → Decided line
-  by_word line word rest e lacks = go (is_word word (codes "new")) (is_word word (codes "go")) (is_word word (codes "at")) (is_word word (codes "same")) where
-    go :
-        (word ≡ codes "new") ⊎ (word ≢ codes "new") → (word ≡ codes "go") ⊎ (word ≢ codes "go")
-        → (word ≡ codes "at") ⊎ (word ≢ codes "at") → (word ≡ codes "same") ⊎ (word ≢ codes "same")
-        → Decided line
-    go (inl is) _ _ _ =
-        by_row line word rest (codes "new") New e lacks is (λ w. refl) (tell_walker rest)
-    go (inr _) (inl is) _ _ =
-        by_row line word rest (codes "go") (λ p. Go p.0 p.1) e lacks is (λ p. refl) (tell_walk rest)
-    go (inr _) (inr _) (inl is) _ =
-        by_row line word rest (codes "at") At e lacks is (λ w. refl) (tell_walker rest)
-    go (inr _) (inr _) (inr _) (inl is) =
-        by_row line word rest (codes "same") (λ p. Same p.0 p.1) e lacks is (λ p. refl)
-        (tell_walkers rest)
-    go (inr a) (inr b) (inr c) (inr d) = inr (unknown line word rest e lacks a b c d)
+  by_word line word rest e lacks =
+      or_else (is_word word (codes "new"))
+      (λ is. by_row line word rest (codes "new") New e lacks is (λ w. refl) (tell_walker rest))
+      (λ a. or_else (is_word word (codes "go"))
+      (λ is. by_row line word rest (codes "go") (λ p. Go p.0 p.1) e lacks is (λ p. refl)
+      (tell_walk rest))
+      (λ b. or_else (is_word word (codes "at"))
+      (λ is. by_row line word rest (codes "at") At e lacks is (λ w. refl) (tell_walker rest))
+      (λ c. or_else (is_word word (codes "same"))
+      (λ is. by_row line word rest (codes "same") (λ p. Same p.0 p.1) e lacks is (λ p. refl)
+      (tell_walkers rest))
+      (λ d. or_else (is_word word (codes "level"))
+      (λ is. by_row line word rest (codes "level") Level e lacks is (λ w. refl) (tell_walker rest))
+      (λ f. or_else (is_word word (codes "dist"))
+      (λ is. by_row line word rest (codes "dist") (λ p. Dist p.0 p.1) e lacks is (λ p. refl)
+      (tell_walkers rest))
+      (λ g. or_else (is_word word (codes "path"))
+      (λ is. by_row line word rest (codes "path") (λ p. Path p.0 p.1) e lacks is (λ p. refl)
+      (tell_walkers rest))
+      (λ h. inr (unknown line word rest e lacks a b c d f g h))))))))
+    where
+      or_else :
+          {P : Type 0} → P ⊎ ¬ P → (P → Decided line) → (¬ P → Decided line) → Decided line
+      or_else (inl p) f g = f p
+      or_else (inr n) f g = g n
 
   pub decided : (line : List ℕ) → Decided line
   decided line = go (cut line) where

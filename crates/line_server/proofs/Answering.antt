@@ -3,7 +3,7 @@ use Rattle.std.proofs.Common.{◌≡◌, ◌≢◌, ℕ, ◌<◌, ◌≤◌, Boo
 use Rattle.std.proofs.lemmas.List.{length-append}
 use Rattle.std.specs.Prelude.{Result, Ok, Err, OnOk, OnErr}
 use Rattle.reply_model.specs.declared.Command.{Command}
-use Rattle.reply_model.specs.declared.Command.TheVariants.{New, Go, At, Same}
+use Rattle.reply_model.specs.declared.Command.TheVariants.{New, Go, At, Same, Level, Dist, Path}
 use Rattle.reply_model.specs.declared.Reply.{Reply}
 use Rattle.command_text.specs.CommandLines.{Operands, one_walker, two_walkers, walker_and_walk, AreTold, by_number, by_numbers, by_number_and_letters, IsSpelling, SpellsNothing, most_of_line}
 use Rattle.command_text.specs.Replies.{reply_text}
@@ -49,6 +49,9 @@ numbers_told text (New w) s = are_numbers s.told
 numbers_told text (Go w walk) s = are_numbers s.told
 numbers_told text (At w) s = are_numbers s.told
 numbers_told text (Same w v) s = are_numbers s.told
+numbers_told text (Level w) s = are_numbers s.told
+numbers_told text (Dist w v) s = are_numbers s.told
+numbers_told text (Path w v) s = are_numbers s.told
 
 -- a session that stays as it is, and says this to the line
 stays :

@@ -6,7 +6,7 @@ use Rattle.tile_model.specs.Relation.{AreRelated, AreAtSameTile}
 use Rattle.tree_model.specs.Automata.{TreeAutomaton}
 use Rattle.tree_model.specs.Positions.{Position}
 use Rattle.reply_model.specs.declared.Command.{Command}
-use Rattle.reply_model.specs.declared.Command.TheVariants.{New, Go, At}
+use Rattle.reply_model.specs.declared.Command.TheVariants.{New, Go, At, Level}
 use Rattle.reply_model.specs.declared.Reply.{Reply}
 use Rattle.reply_model.specs.declared.Reply.TheVariants.{At as AtPlace}
 use Rattle.reply_model.specs.Histories.{History, AreDue, walk_of}
@@ -31,9 +31,10 @@ abbrev pub moves : History → List Command
 moves [] = []
 moves (event ∷ history) = as_move event.0 ++ moves history
 
--- The command asks where a walker is.
+-- The command asks where one walker is: at which place, or at which distance from the root.
 pub data AsksPlace : Command → Type 0 where
   asks_at : (w : ℕ) → AsksPlace (At w)
+  asks_level : (w : ℕ) → AsksPlace (Level w)
 
 -- Two histories may have the same commands that make and move walkers, in the same order, whatever
 -- other commands come between. Then each reply that says where a walker is, and is due after one of

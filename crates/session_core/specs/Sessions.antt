@@ -5,7 +5,7 @@ use Rattle.tree_model.specs.Limits.{deepest}
 use Rattle.structure_check.specs.Rules.{TreeRules, AreSound}
 use Rattle.turn_rules.specs.Spots.{TreeSpot, IsSpot, position, root_kind}
 use Rattle.reply_model.specs.declared.Command.{Command}
-use Rattle.reply_model.specs.declared.Command.TheVariants.{New, Go, At, Same}
+use Rattle.reply_model.specs.declared.Command.TheVariants.{New, Go, At, Same, Level, Dist, Path}
 use Rattle.reply_model.specs.declared.Reply.{Reply}
 use Rattle.reply_model.specs.Histories.{History, most_walkers, AreDue, Exists, walk_of}
 use Rattle.reply_model.specs.Readings.{Reading}
@@ -44,6 +44,9 @@ HasNumbers (New w) = w < most_walkers
 HasNumbers (Go w walk) = w < most_walkers
 HasNumbers (At w) = w < most_walkers
 HasNumbers (Same w v) = (w < most_walkers) × (v < most_walkers)
+HasNumbers (Level w) = w < most_walkers
+HasNumbers (Dist w v) = (w < most_walkers) × (v < most_walkers)
+HasNumbers (Path w v) = (w < most_walkers) × (v < most_walkers)
 
 -- By a reading of the words of a reply, a session stands for a history: the replies in it are due,
 -- there is a spot for exactly the walkers that exist after it, and the spot of each is the place of
