@@ -22,7 +22,7 @@ use Rattle.tree_laws.proofs.Levels.{start_type}
 use Rattle.tree_laws.proofs.Between.{kind_known}
 use Rattle.tree_laws.proofs.Together.{distance_onwards}
 use Rattle.tree_model.specs.Limits.{deepest}
-use Rattle.cell_distance.specs.Passing.{PassesFar, LeadsFar}
+use Rattle.cell_distance.specs.Passing.{WalkPassesFar, LeadsFar}
 use Rattle.cell_distance.proofs.Splits.{Splits, inside, beyond, splits}
 
 -- back along c and u, and then along c and w, is back along u and then along w
@@ -73,7 +73,7 @@ module _ (kinds : List TileKind) (a : TreeAutomaton) (k : ℕ) (valid : IsValid 
       omega (arith, f, crossings_inverse m, crossings_append p m)
 
   -- What the tree tells to be far on the way is far from the tile of u.
-  pub far_there : (c u w : List Letter) → LeadsFar kinds a (kind_at_end (c ++ u)) (side_at_end (c ++ u)) (inverse u ++ w) → PassesFar kinds (k, 0) (c ++ u) (c ++ u) (inverse (c ++ u) ++ (c ++ w))
+  pub far_there : (c u w : List Letter) → LeadsFar kinds a (kind_at_end (c ++ u)) (side_at_end (c ++ u)) (inverse u ++ w) → WalkPassesFar kinds (k, 0) (c ++ u) (c ++ u) (inverse (c ++ u) ++ (c ++ w))
   far_there c u w h = go (splits (inverse u) w h.prefix h.rest h.split)
     where
       whole : List Letter
@@ -85,7 +85,7 @@ module _ (kinds : List TileKind) (a : TreeAutomaton) (k : ℕ) (valid : IsValid 
           let turns : List Letter = replicate (type_of kinds (k, 0) (c ++ u)).1 L in
           distance_onwards kinds a k valid ok known (c ++ u) h.prefix h.there (leads_place kinds a j valid ok (kind_known kinds a k valid ok known (c ++ u)) (turns ++ h.prefix) h.there h.leads)
 
-      go : Splits (inverse u) w h.prefix h.rest → PassesFar kinds (k, 0) (c ++ u) (c ++ u) (inverse (c ++ u) ++ (c ++ w))
+      go : Splits (inverse u) w h.prefix h.rest → WalkPassesFar kinds (k, 0) (c ++ u) (c ++ u) (inverse (c ++ u) ++ (c ++ w))
       go (inside m e) =
           let split : inverse (c ++ u) ++ (c ++ w) ≡ h.prefix ++ (m ++ (inverse c ++ (c ++ w))) =
           ap (λ l. l ++ (c ++ w)) (inverse_append c u ∙ ap (λ l. l ++ inverse c) e ∙ append_assoc h.prefix m (inverse c)) ∙ append_assoc h.prefix (m ++ inverse c) (c ++ w) ∙ ap (λ l. h.prefix ++ l) (append_assoc m (inverse c) (c ++ w)) in
@@ -125,7 +125,7 @@ module _ (kinds : List TileKind) (a : TreeAutomaton) (k : ℕ) (valid : IsValid 
           let same = related_on kinds (related_equal kinds f) (related_on kinds (related_back kinds back) (related_back kinds (related_before kinds (c ++ u) (cancelled kinds (type_of kinds (k, 0) (c ++ u)) c u m)))) in
           far_in_tree (c ++ u) (inverse u ++ w) (inverse u ++ m) r n split (same_distance (c ++ u) p ((c ++ u) ++ (inverse u ++ m)) n same h) far
 
-  pub far_here : (c u w : List Letter) → crossings (c ++ u) ≤ deepest → PassesFar kinds (k, 0) (c ++ u) (c ++ u) (inverse (c ++ u) ++ (c ++ w)) → LeadsFar kinds a (kind_at_end (c ++ u)) (side_at_end (c ++ u)) (inverse u ++ w)
+  pub far_here : (c u w : List Letter) → crossings (c ++ u) ≤ deepest → WalkPassesFar kinds (k, 0) (c ++ u) (c ++ u) (inverse (c ++ u) ++ (c ++ w)) → LeadsFar kinds a (kind_at_end (c ++ u)) (side_at_end (c ++ u)) (inverse u ++ w)
   far_here c u w short h = go (splits (inverse (c ++ u)) (c ++ w) h.prefix h.rest h.split)
     where
       go : Splits (inverse (c ++ u)) (c ++ w) h.prefix h.rest → LeadsFar kinds a (kind_at_end (c ++ u)) (side_at_end (c ++ u)) (inverse u ++ w)
@@ -135,21 +135,21 @@ module _ (kinds : List TileKind) (a : TreeAutomaton) (k : ℕ) (valid : IsValid 
           onward_back c u w m h.rest h.distance short f (same_distance (c ++ u) ((c ++ u) ++ h.prefix) m h.distance same h.apart) h.far
 
   -- the same, where nothing is left out
-  pub far_whole : (u w : List Letter) → PassesFar kinds (k, 0) u u (inverse u ++ w) → LeadsFar kinds a (kind_at_end u) (side_at_end u) (inverse u ++ w)
+  pub far_whole : (u w : List Letter) → WalkPassesFar kinds (k, 0) u u (inverse u ++ w) → LeadsFar kinds a (kind_at_end u) (side_at_end u) (inverse u ++ w)
   far_whole u w h = far_in_tree u (inverse u ++ w) h.prefix h.rest h.distance h.split h.apart h.far
 
   -- Of a walk u that is no longer than may be told, the way back along it never is too far; so what is far lies on w.
-  pub far_onwards : (u w : List Letter) → crossings u ≤ deepest → PassesFar kinds (k, 0) u u (inverse u ++ w) → PassesFar kinds (k, 0) u [] w
+  pub far_onwards : (u w : List Letter) → crossings u ≤ deepest → WalkPassesFar kinds (k, 0) u u (inverse u ++ w) → WalkPassesFar kinds (k, 0) u [] w
   far_onwards u w short h = go (splits (inverse u) w h.prefix h.rest h.split)
     where
-      go : Splits (inverse u) w h.prefix h.rest → PassesFar kinds (k, 0) u [] w
+      go : Splits (inverse u) w h.prefix h.rest → WalkPassesFar kinds (k, 0) u [] w
       go (inside m e) = let near = back_near u h.prefix m h.distance e h.apart in absurd (omega (arith, near, short, h.far))
       go (beyond m e f) =
           let same = related_on kinds (related_before kinds u (related_equal kinds e)) (there_back_on kinds (k, 0) u m) in
           record { prefix = m; rest = h.rest; split = f; distance = h.distance; apart = same_distance u (u ++ h.prefix) m h.distance same h.apart; far = h.far }
 
   -- and what is far on w is far on the way there
-  pub far_inwards : (u w : List Letter) → PassesFar kinds (k, 0) u [] w → PassesFar kinds (k, 0) u u (inverse u ++ w)
+  pub far_inwards : (u w : List Letter) → WalkPassesFar kinds (k, 0) u [] w → WalkPassesFar kinds (k, 0) u u (inverse u ++ w)
   far_inwards u w h = record {
     prefix = inverse u ++ h.prefix;
     rest = h.rest;
@@ -160,7 +160,7 @@ module _ (kinds : List TileKind) (a : TreeAutomaton) (k : ℕ) (valid : IsValid 
   }
 
   -- the same from any walk to the same tile
-  pub far_from : (u v w : List Letter) → AreRelated kinds (k, 0) u v → PassesFar kinds (k, 0) u [] w → PassesFar kinds (k, 0) v [] w
+  pub far_from : (u v w : List Letter) → AreRelated kinds (k, 0) u v → WalkPassesFar kinds (k, 0) u [] w → WalkPassesFar kinds (k, 0) v [] w
   far_from u v w r h = record {
     prefix = h.prefix;
     rest = h.rest;

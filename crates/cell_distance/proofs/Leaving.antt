@@ -19,7 +19,7 @@ use Rattle.spot_laws.specs.Spots.{TreeSpot, position}
 use Rattle.cell_distance.specs.declared.fault.DistFault.{DistFault}
 use Rattle.cell_distance.specs.declared.fault.DistFault.TheVariants.{Deep, Memory}
 use Rattle.tree_model.specs.Limits.{deepest}
-use Rattle.cell_distance.specs.Passing.{PassesFar, LeadsFar, LeavesOut, ArrivesFrom}
+use Rattle.cell_distance.specs.Passing.{WalkPassesFar, LeadsFar, LeavesOut, ArrivesFrom}
 use Rattle.cell_distance.proofs.Cancelling.{place_of_rest, far_there, far_here, far_whole}
 
 -- the letters from the n-th on
@@ -66,7 +66,7 @@ module _ (kinds : List TileKind) (a : TreeAutomaton) (k : ℕ) (valid : IsValid 
     Far v z = LeadsFar kinds a (type_of kinds (k, 0) v).0 (type_of kinds (k, 0) v).1 z
 
     abbrev Passes : List Letter → List Letter → Type 0
-    Passes v z = PassesFar kinds (k, 0) v v (inverse v ++ z)
+    Passes v z = WalkPassesFar kinds (k, 0) v v (inverse v ++ z)
 
     pub far_passes : Far u way → Passes u w
     far_passes h =
@@ -96,10 +96,10 @@ module _ (kinds : List TileKind) (a : TreeAutomaton) (k : ℕ) (valid : IsValid 
         near = near;
       }
 
-      pub passes : LeadsFar kinds a j s way → PassesFar kinds (k, 0) u u (inverse u ++ w)
+      pub passes : LeadsFar kinds a j s way → WalkPassesFar kinds (k, 0) u u (inverse u ++ w)
       passes h = far_passes (subst (λ (d : ℕ × ℕ). LeadsFar kinds a d.0 d.1 way) start h)
 
-      pub leads : PassesFar kinds (k, 0) u u (inverse u ++ w) → LeadsFar kinds a j s way
+      pub leads : WalkPassesFar kinds (k, 0) u u (inverse u ++ w) → LeadsFar kinds a j s way
       leads h = subst (λ (d : ℕ × ℕ). LeadsFar kinds a d.0 d.1 way) (sym start) (passes_far h)
 
   -- the type of the end of a walk has its side among those of its kind

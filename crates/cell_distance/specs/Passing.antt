@@ -13,7 +13,7 @@ use Rattle.spot_laws.specs.Spots.{TreeSpot, position}
 
 -- Some beginning of the walk, gone behind `before`, ends at a tile that is farther than that from
 -- the tile of `home`.
-pub record PassesFar (kinds : List TileKind) (d : ℕ × ℕ) (home before walk : List Letter) : Type 0
+pub record WalkPassesFar (kinds : List TileKind) (d : ℕ × ℕ) (home before walk : List Letter) : Type 0
   where
     pub prefix : List Letter
     pub rest : List Letter

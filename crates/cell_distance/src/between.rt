@@ -7,7 +7,7 @@ ghost use Rattle.tree_model.specs.Positions.{Position};
 ghost use Rattle.tree_laws.specs.Laws.{IsPlaceFrom, IsShortestWay, way_to};
 ghost use Rattle.structure_check.specs.Rules.{AreSound};
 ghost use Rattle.tree_model.specs.Limits.{deepest};
-ghost use Rattle.cell_distance.specs.Passing.{PassesFar, LeavesOut, ArrivesFrom};
+ghost use Rattle.cell_distance.specs.Passing.{WalkPassesFar, LeavesOut, ArrivesFrom};
 
 use crate::arrival::{arrive, opposite, way_along};
 use crate::fault::DistFault;
@@ -29,8 +29,8 @@ pub fn distance(alloc: Global, r: &Rules, kind: u8, u: &Walk, w: &Walk) -> Resul
     requires { kind < length r.now.kinds }
     ensures least { IfOk result (λ n. IsDistance r.now.kinds (kind, 0) u.now w.now n) }
     ensures deep { IsErrOf result DistFault.Deep
-        → PassesFar r.now.kinds (kind, 0) u.now u.now (inverse u.now ++ w.now) }
-    ensures too_deep { PassesFar r.now.kinds (kind, 0) u.now u.now (inverse u.now ++ w.now)
+        → WalkPassesFar r.now.kinds (kind, 0) u.now u.now (inverse u.now ++ w.now) }
+    ensures too_deep { WalkPassesFar r.now.kinds (kind, 0) u.now u.now (inverse u.now ++ w.now)
         → IsErrOf result DistFault.Deep ⊎ IsErrOf result DistFault.Memory }
 {
     let (_, there) = go_between(alloc, r, kind, u, w)?;
@@ -49,8 +49,8 @@ pub fn shortest(alloc: Global, r: &Rules, kind: u8, u: &Walk, w: &Walk) -> Resul
         → IsPlaceFrom r.now.kinds r.now.automaton kind u.now w.now p
         → z ≡ way_to (type_along r.now.kinds (kind, 0) u.now).1 p.name) }
     ensures deep { IsErrOf result DistFault.Deep
-        → PassesFar r.now.kinds (kind, 0) u.now u.now (inverse u.now ++ w.now) }
-    ensures too_deep { PassesFar r.now.kinds (kind, 0) u.now u.now (inverse u.now ++ w.now)
+        → WalkPassesFar r.now.kinds (kind, 0) u.now u.now (inverse u.now ++ w.now) }
+    ensures too_deep { WalkPassesFar r.now.kinds (kind, 0) u.now u.now (inverse u.now ++ w.now)
         → IsErrOf result DistFault.Deep ⊎ IsErrOf result DistFault.Memory }
 {
     let (from, there) = go_between(alloc, r, kind, u, w)?;
@@ -71,8 +71,8 @@ fn go_between(
     ensures arrives { IfOk result (λ e.
         ArrivesFrom r.now.kinds r.now.automaton kind u.now w.now e.0 e.1) }
     ensures deep { IsErrOf result DistFault.Deep
-        → PassesFar r.now.kinds (kind, 0) u.now u.now (inverse u.now ++ w.now) }
-    ensures too_deep { PassesFar r.now.kinds (kind, 0) u.now u.now (inverse u.now ++ w.now)
+        → WalkPassesFar r.now.kinds (kind, 0) u.now u.now (inverse u.now ++ w.now) }
+    ensures too_deep { WalkPassesFar r.now.kinds (kind, 0) u.now u.now (inverse u.now ++ w.now)
         → IsErrOf result DistFault.Deep ⊎ IsErrOf result DistFault.Memory }
 {
     let t = r.tessellation();

@@ -12,7 +12,7 @@ ghost use Rattle.structure_check.specs.Rules.{AreSound};
 ghost use Rattle.spot_laws.specs.Spots.{IsSpot, position, root_kind};
 ghost use Rattle.step_engine.specs.Crossings.{StandsAfter};
 ghost use Rattle.tree_model.specs.Limits.{deepest};
-ghost use Rattle.cell_distance.specs.Passing.{PassesFar, LeavesOut, ArrivesFrom};
+ghost use Rattle.cell_distance.specs.Passing.{WalkPassesFar, LeavesOut, ArrivesFrom};
 
 use crate::arrival::{arrive, push_turns, push_word, way_along};
 use crate::fault::DistFault;
@@ -36,9 +36,9 @@ pub fn spot_distance(alloc: Global, r: &Rules, s: &Spot, t: &Spot) -> Result<u32
         → StandsAfter r.now s.now u → StandsAfter r.now t.now w
         → IsDistance r.now.kinds (root_kind r.now s.now, 0) u w n) }
     ensures deep { IsErrOf result DistFault.Deep → (u : List Letter) → StandsAfter r.now s.now u
-        → PassesFar r.now.kinds (root_kind r.now s.now, 0) u [] (word t.now.name) }
+        → WalkPassesFar r.now.kinds (root_kind r.now s.now, 0) u [] (word t.now.name) }
     ensures too_deep { (u : List Letter) → StandsAfter r.now s.now u
-        → PassesFar r.now.kinds (root_kind r.now s.now, 0) u [] (word t.now.name)
+        → WalkPassesFar r.now.kinds (root_kind r.now s.now, 0) u [] (word t.now.name)
         → IsErrOf result DistFault.Deep ⊎ IsErrOf result DistFault.Memory }
 {
     let (_, there) = go_between_spots(alloc, r, s, t)?;
@@ -63,9 +63,9 @@ pub fn spot_shortest(alloc: Global, r: &Rules, s: &Spot, t: &Spot) -> Result<Wal
         → IsPlaceFrom r.now.kinds r.now.automaton (root_kind r.now s.now) u w p
         → z ≡ way_to (type_of r.now.kinds (root_kind r.now s.now, 0) u).1 p.name) }
     ensures deep { IsErrOf result DistFault.Deep → (u : List Letter) → StandsAfter r.now s.now u
-        → PassesFar r.now.kinds (root_kind r.now s.now, 0) u [] (word t.now.name) }
+        → WalkPassesFar r.now.kinds (root_kind r.now s.now, 0) u [] (word t.now.name) }
     ensures too_deep { (u : List Letter) → StandsAfter r.now s.now u
-        → PassesFar r.now.kinds (root_kind r.now s.now, 0) u [] (word t.now.name)
+        → WalkPassesFar r.now.kinds (root_kind r.now s.now, 0) u [] (word t.now.name)
         → IsErrOf result DistFault.Deep ⊎ IsErrOf result DistFault.Memory }
 {
     let (from, there) = go_between_spots(alloc, r, s, t)?;
@@ -87,9 +87,9 @@ fn go_between_spots(
         ArrivesFrom r.now.kinds r.now.automaton (root_kind r.now s.now)
         (position_word (position s.now)) (word t.now.name) e.0 e.1) }
     ensures deep { IsErrOf result DistFault.Deep
-        → PassesFar r.now.kinds (root_kind r.now s.now, 0)
+        → WalkPassesFar r.now.kinds (root_kind r.now s.now, 0)
         (position_word (position s.now)) [] (word t.now.name) }
-    ensures too_deep { PassesFar r.now.kinds (root_kind r.now s.now, 0)
+    ensures too_deep { WalkPassesFar r.now.kinds (root_kind r.now s.now, 0)
         (position_word (position s.now)) [] (word t.now.name)
         → IsErrOf result DistFault.Deep ⊎ IsErrOf result DistFault.Memory }
 {

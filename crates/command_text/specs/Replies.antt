@@ -41,5 +41,5 @@ abbrev pub reply_text : Reply → List ℕ
 reply_text x = reply_words x ++ line_feed
 
 -- the bytes begin with these
-abbrev pub Begins : List ℕ → List ℕ → Type 0
-Begins bytes front = take (length front) bytes ≡ front
+abbrev pub StandsInFront : List ℕ → List ℕ → Type 0
+StandsInFront bytes front = take (length front) bytes ≡ front

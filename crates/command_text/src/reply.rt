@@ -1,7 +1,7 @@
 //! The lines of replies, printed.
 ghost use Rattle.std.specs.Prelude.{◌≡◌, ◌∷◌, ◌++◌, codes, decimal, OnOk, OnErr};
 ghost use Rattle.cell_names.specs.Text.{name_text};
-ghost use Rattle.command_text.specs.Replies.{Begins, line_feed, number_words, path_words, place_words, reply_text};
+ghost use Rattle.command_text.specs.Replies.{StandsInFront, line_feed, number_words, path_words, place_words, reply_text};
 
 use cell_names::{Name, write_name};
 use itoa::Buffer;
@@ -39,7 +39,7 @@ pub fn write_reply(out: &mut Vec<u8>, x: &Reply) -> Result<(), AllocError>
 /// Appends the line of a reply, or some bytes.
 fn append_reply(out: &mut Vec<u8>, x: &Reply) -> Result<(), AllocError>
     ensures written { OnOk result (out.new.items ≡ out.old.items ++ reply_text x.now) }
-    ensures kept { OnErr result (Begins out.new.items out.old.items) }
+    ensures kept { OnErr result (StandsInFront out.new.items out.old.items) }
 {
     match x {
         Reply::Done => out.extend_from_slice(b"ok\n"),
@@ -59,7 +59,7 @@ fn append_reply(out: &mut Vec<u8>, x: &Reply) -> Result<(), AllocError>
 fn append_counted(out: &mut Vec<u8>, word: &[u8], number: u32) -> Result<(), AllocError>
     ensures written { OnOk result
         (out.new.items ≡ out.old.items ++ number_words word.now number ++ line_feed) }
-    ensures kept { OnErr result (Begins out.new.items out.old.items) }
+    ensures kept { OnErr result (StandsInFront out.new.items out.old.items) }
 {
     out.extend_from_slice(word)?;
     append_number(out, b' ', number)?;
@@ -71,7 +71,7 @@ fn append_counted(out: &mut Vec<u8>, word: &[u8], number: u32) -> Result<(), All
 fn append_path(out: &mut Vec<u8>, walk: &Walk) -> Result<(), AllocError>
     ensures written { OnOk result
         (out.new.items ≡ out.old.items ++ path_words walk.now ++ line_feed) }
-    ensures kept { OnErr result (Begins out.new.items out.old.items) }
+    ensures kept { OnErr result (StandsInFront out.new.items out.old.items) }
 {
     let text = print_walk(*out.allocator(), walk)?;
     out.extend_from_slice(b"path ")?;
@@ -84,7 +84,7 @@ fn append_path(out: &mut Vec<u8>, walk: &Walk) -> Result<(), AllocError>
 fn append_place(out: &mut Vec<u8>, name: &Name, spin: u8, kind: u8) -> Result<(), AllocError>
     ensures written { OnOk result
         (out.new.items ≡ out.old.items ++ place_words name.now spin kind ++ line_feed) }
-    ensures kept { OnErr result (Begins out.new.items out.old.items) }
+    ensures kept { OnErr result (StandsInFront out.new.items out.old.items) }
 {
     out.extend_from_slice(b"at ")?;
     write_name(out, name)?;
@@ -97,7 +97,7 @@ fn append_place(out: &mut Vec<u8>, name: &Name, spin: u8, kind: u8) -> Result<()
 /// Appends a byte and a number, or some bytes.
 fn append_number(out: &mut Vec<u8>, separator: u8, number: u32) -> Result<(), AllocError>
     ensures written { OnOk result (out.new.items ≡ out.old.items ++ separator ∷ decimal number) }
-    ensures kept { OnErr result (Begins out.new.items out.old.items) }
+    ensures kept { OnErr result (StandsInFront out.new.items out.old.items) }
 {
     let mut buffer = Buffer::new();
     out.push(separator)?;

@@ -7,7 +7,7 @@ use Rattle.reply_model.specs.declared.Reply.{Reply}
 use Rattle.reply_laws.proofs.Together.{replies_agree, one_reply_over_walks, interleavings_over_walks}
 use Rattle.command_text.specs.Replies.{reply_text}
 use Rattle.command_text.specs.Laws.{LinesSpellOne, LinesAreDecided}
-use Rattle.line_server.specs.Answering.{IsTextOf, over_walks, over_tree}
+use Rattle.line_server.specs.Answering.{IsReplyText, over_walks, over_tree}
 use Rattle.line_server.specs.Laws.{OutputsAreOne, FrontsBeginOutputs, FrontsBeginWhatIsWithin, OutputsLeadToDue, InterleavingsHaveOneAnswer, OutputsAgree}
 use Rattle.line_server.proofs.SameOutput.{output_again}
 use Rattle.line_server.proofs.SomeOutput.{some_output}
@@ -18,7 +18,7 @@ use Rattle.line_server.proofs.Interleaving.{streams_interleave}
 -- a reply has one text
 one_text :
     (kinds : List TileKind) (a : TreeAutomaton) (k : ℕ) (x : Reply) (bytes others : List ℕ)
-    → IsTextOf kinds a k x bytes → IsTextOf kinds a k x others → bytes ≡ others
+    → IsReplyText kinds a k x bytes → IsReplyText kinds a k x others → bytes ≡ others
 one_text kinds a k x bytes others said also = said ∙ sym also
 
 pub outputs_agree : OfEachTree OutputsAgree

@@ -43,9 +43,9 @@ pub enum Reply {
     Yes,
     /// They stand on two tiles.
     No,
-    /// The walker is that many crossings away from the root, at least.
+    /// The least number of crossings from the root to the tile of the walker.
     Level(u32),
-    /// The second walker is that many crossings away from the first, at least.
+    /// The least number of crossings from the tile of the first walker to that of the second.
     Dist(u32),
     /// A walk from the first walker to the tile of the second with the fewest crossings.
     Path(Walk),

@@ -27,7 +27,7 @@ use Rattle.reply_laws.proofs.Events.{Event, walk_push, walk_stays, exists_push, 
 use Rattle.reply_laws.proofs.Histories.{unborn, due_push}
 use Rattle.tree_laws.proofs.Together.{walks_one_place, state_kinds}
 use Rattle.session_core.specs.Sessions.{SessionState, walker_at, IsWalker, IsSession, HasNumbers, Stands}
-use Rattle.session_core.specs.Sessions.{over_walks, over_tree, StandsForWalks, StandsFor, IsDueOverTree}
+use Rattle.session_core.specs.Sessions.{session_over_walks, session_over_tree, StandsForWalks, StandsFor, IsDueOverTree}
 use Rattle.session_core.specs.Answered.{HasAnswered}
 use Rattle.session_core.proofs.Steps as steps
 use Rattle.session_core.proofs.Steps.{Does, HasGone, with_walker}
@@ -224,7 +224,7 @@ module _ (s : SessionState) (is : IsSession s) (h : History) (stands : StandsFor
       Led (walk_of (h ++ (New w, Done) ∷ []) w) q
   new_led w q e at =
       let none : walk_of h w ≡ [] =
-      unborn s.rules.kinds s.kind (over_tree s) h w stands.replies (nobody w e) in
+      unborn s.rules.kinds s.kind (session_over_tree s) h w stands.replies (nobody w e) in
       subst (λ l. Led l q) (sym (walk_stays h (New w) Done w refl ∙ none)) (sym at)
 
   -- the reply is due
@@ -385,13 +385,13 @@ pub for_walks :
     (s : SessionState) → AreSound s.rules → s.kind < length s.rules.kinds → (h : History) →
     StandsFor s h → StandsForWalks s h
 for_walks s sound known h st =
-    stands_again (over_tree s) (over_walks s) s (ends s sound known) (readings s sound known) h st
+    stands_again (session_over_tree s) (session_over_walks s) s (ends s sound known) (readings s sound known) h st
 
 for_tree :
     (s : SessionState) → AreSound s.rules → s.kind < length s.rules.kinds → (h : History) →
     StandsForWalks s h → StandsFor s h
 for_tree s sound known h st =
-    stands_again (over_walks s) (over_tree s) s (ends s sound known)
+    stands_again (session_over_walks s) (session_over_tree s) s (ends s sound known)
     (the_other_way (readings s sound known)) h st
 
 pub answered :

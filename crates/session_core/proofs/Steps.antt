@@ -12,7 +12,7 @@ use Rattle.tree_laws.specs.Laws.{IsPlaceFrom, way_to}
 use Rattle.structure_check.specs.Rules.{TreeRules}
 use Rattle.turn_rules.specs.Spots.{TreeSpot, IsAt, position, root_kind, tile_state}
 use Rattle.step_engine.specs.Crossings.{WalkLeadsTo, WalksDeep, StandsAfter}
-use Rattle.cell_distance.specs.Passing.{PassesFar as PassesTileFar}
+use Rattle.cell_distance.specs.Passing.{WalkPassesFar}
 use Rattle.reply_model.specs.declared.Command.{Command}
 use Rattle.reply_model.specs.declared.Command.TheVariants.{New, Go, At, Same, Level, Dist, Path}
 use Rattle.reply_model.specs.declared.Reply.{Reply}
@@ -38,13 +38,13 @@ pub record HasGone (session : SessionState) (s t : TreeSpot) (walk : List Letter
 abbrev pub IsFarPath : TreeRules → TreeSpot → TreeSpot → Type 0
 IsFarPath rules s t =
     (u : List Letter) → StandsAfter rules s u →
-    PassesTileFar rules.kinds (root_kind rules s, 0) u [] (word t.name)
+    WalkPassesFar rules.kinds (root_kind rules s, 0) u [] (word t.name)
 
 -- It passes none.
 abbrev pub IsNearPath : TreeRules → TreeSpot → TreeSpot → Type 0
 IsNearPath rules s t =
     (u : List Letter) → StandsAfter rules s u →
-    PassesTileFar rules.kinds (root_kind rules s, 0) u [] (word t.name) → ⊥
+    WalkPassesFar rules.kinds (root_kind rules s, 0) u [] (word t.name) → ⊥
 
 -- The second spot is n crossings away from the first.
 abbrev pub AreSpotsApart : TreeRules → TreeSpot → TreeSpot → ℕ → Type 0

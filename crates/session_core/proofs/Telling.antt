@@ -15,7 +15,7 @@ use Rattle.tree_laws.proofs.Between.{kind_known}
 use Rattle.structure_check.specs.Rules.{AreSound}
 use Rattle.turn_rules.specs.Spots.{TreeSpot, position}
 use Rattle.step_engine.specs.Crossings.{StandsAfter}
-use Rattle.cell_distance.specs.Passing.{PassesFar as PassesTileFar}
+use Rattle.cell_distance.specs.Passing.{WalkPassesFar}
 use Rattle.reply_model.specs.declared.Command.{Command}
 use Rattle.reply_model.specs.declared.Command.TheVariants.{Level, Dist, Path}
 use Rattle.reply_model.specs.declared.Reply.{Reply}
@@ -28,7 +28,7 @@ use Rattle.reply_model.specs.WalkReadings.{IsThePlace, walk_reading}
 use Rattle.reply_laws.specs.Laws.{ReadingsAgree}
 use Rattle.reply_laws.proofs.Alike.{EndsAreKnown, the_other_way, read_again}
 use Rattle.reply_laws.proofs.Together.{readings_agree}
-use Rattle.session_core.specs.Sessions.{SessionState, walker_at, IsSession, StandsFor, over_walks}
+use Rattle.session_core.specs.Sessions.{SessionState, walker_at, IsSession, StandsFor, session_over_walks}
 use Rattle.session_core.specs.Sessions.{IsDueOverWalks, IsDueOverTree}
 use Rattle.session_core.proofs.Steps.{IsFarPath, IsNearPath, AreSpotsApart, IsAlongName}
 
@@ -40,7 +40,7 @@ same_way s (i ∷ name) = refl
 module _ (kinds : List TileKind) (a : TreeAutomaton) (k : ℕ) (home before walk : List Letter) where
   -- walks that pass a far tile, in the words of two crates
   passes :
-      PassesTileFar kinds (k, 0) home before walk →
+      WalkPassesFar kinds (k, 0) home before walk →
       PassesFar (walk_reading kinds a k) home before walk
   passes f = record {
     prefix = f.prefix;
@@ -51,7 +51,7 @@ module _ (kinds : List TileKind) (a : TreeAutomaton) (k : ℕ) (home before walk
 
   passed :
       PassesFar (walk_reading kinds a k) home before walk →
-      PassesTileFar kinds (k, 0) home before walk
+      WalkPassesFar kinds (k, 0) home before walk
   passed f = record {
     prefix = f.prefix;
     rest = f.rest;
@@ -117,28 +117,28 @@ module _ (s : SessionState) (is : IsSession s) (h : History) (stands : StandsFor
     where
       far_path :
           IsFarPath s.rules p q →
-          TreePathPassesFar (over_walks s) s.kind (walk_of h w) (walk_of h v)
+          TreePathPassesFar (session_over_walks s) s.kind (walk_of h w) (walk_of h v)
       far_path far = record {
         place = position q;
         placed = the_place v q second;
         passes =
             passes s.rules.kinds s.rules.automaton s.kind (walk_of h w) [] (word q.name)
-            (subst (λ j. PassesTileFar s.rules.kinds (j, 0) (walk_of h w) [] (word q.name))
+            (subst (λ j. WalkPassesFar s.rules.kinds (j, 0) (walk_of h w) [] (word q.name))
             (is.spots w p first).tree (far (walk_of h w) (stands_after w p first)));
       }
 
       near_path :
           IsNearPath s.rules p q →
-          TreePathPassesFar (over_walks s) s.kind (walk_of h w) (walk_of h v) → ⊥
+          TreePathPassesFar (session_over_walks s) s.kind (walk_of h w) (walk_of h v) → ⊥
       near_path near t =
           let same : t.place ≡ position q =
           (the_place v q second).no_other t.place t.placed.is_place in
           let far =
           passed s.rules.kinds s.rules.automaton s.kind (walk_of h w) [] (word q.name)
-          (subst (λ (r : Position). PassesFar (over_walks s) (walk_of h w) [] (word r.name))
+          (subst (λ (r : Position). PassesFar (session_over_walks s) (walk_of h w) [] (word r.name))
           same t.passes) in
           near (walk_of h w) (stands_after w p first)
-          (subst (λ j. PassesTileFar s.rules.kinds (j, 0) (walk_of h w) [] (word q.name))
+          (subst (λ j. WalkPassesFar s.rules.kinds (j, 0) (walk_of h w) [] (word q.name))
           (sym (is.spots w p first).tree) far)
 
       pub far_due : IsFarPath s.rules p q → IsDueOverTree s h (Dist w v) Deep
