@@ -6,8 +6,8 @@ use thiserror::Error;
 /// Why no distance is told.
 #[derive(Clone, Copy, Debug, PartialEq, Eq, Error)]
 pub enum DistFault {
-    /// On the way from the first tile to the second lies a tile that is more than 4,000 crossings
-    /// from the first.
+    /// Back along the first walk and then along the second comes a tile more than 4,000 crossings
+    /// from the first; of spots, on the way of the tree from the root to the second.
     #[error("a tile on the way at a distance of more than 4000")]
     Deep,
     /// There is no memory.

@@ -34,7 +34,7 @@ pub enum Ending {
 
 /// Answers the lines of a stream, from its source to its sink, until the stream ends or something
 /// fails. The answers to all lines that have ended are written before more is read, so that whoever
-/// waits for an answer at the other end gets it.
+/// waits for an answer at the other end gets it; this last is tested, and no clause says it.
 ///
 /// A line ends at a line feed, and a carriage return in front of it belongs to the line's end. What
 /// stands behind the last line feed is a line too. A line of no bytes has no answer, one of over
