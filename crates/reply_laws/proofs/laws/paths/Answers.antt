@@ -1,5 +1,5 @@
 use Rattle.reply_laws.proofs.Paths.{paths_are_shortest}
 use Rattle.reply_laws.proofs.laws.paths.Goals as goal
 
-pub returns-clause-shortest : goal.returns-clause-shortest
-returns-clause-shortest c = paths_are_shortest
+pub returns : goal.returns
+returns c = record { shortest = paths_are_shortest }
