@@ -82,11 +82,11 @@ fn check_rules<F: Files>(
     ensures same { IsTrue F.tells → KeepsAll (F.contents files.old) (F.contents files.new) }
     ensures stores { F.store_faults files.new ≡ F.store_faults files.old }
 {
-    let loaded = match load_tess(alloc, files, tess) {
+    let tess = match load_tess(alloc, files, tess) {
         Ok(tess) => tess,
-        Err(refusal) => return Err(refusal),
+        Err(unread) => return Err(unread),
     };
-    let rules = match load_rules(alloc, files, loaded, rules) {
+    let rules = match load_rules(alloc, files, tess, rules) {
         Ok(rules) => rules,
         Err(refusal) => return Err(refusal),
     };
