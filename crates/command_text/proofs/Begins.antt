@@ -1,26 +1,26 @@
 -- Bytes that begin with others, and what follows from an error.
 use Rattle.std.proofs.Common.{◌≡◌, ℕ, List, [], ◌∷◌, ◌++◌, length, take, drop, Result, Ok, Err, IfOk, IfErr, OnErr, refl, ap, sym, ◌∙◌}
 use Rattle.std.proofs.lemmas.List.{take-append-drop, append_assoc}
-use Rattle.command_text.specs.Replies.{Begins}
+use Rattle.command_text.specs.Replies.{StandsInFront}
 
 take_front : (front rest : List ℕ) → take (length front) (front ++ rest) ≡ front
 take_front [] rest = refl
 take_front (byte ∷ front) rest = ap (λ (l : List ℕ). byte ∷ l) (take_front front rest)
 
-pub begins_more : (bytes front more : List ℕ) → bytes ≡ front ++ more → Begins bytes front
+pub begins_more : (bytes front more : List ℕ) → bytes ≡ front ++ more → StandsInFront bytes front
 begins_more bytes front more is =
     ap (λ (l : List ℕ). take (length front) l) is ∙ take_front front more
 
 -- bytes that begin with some that begin with others begin with those
 pub begins_on :
-    (bytes middle front : List ℕ) → Begins bytes middle → Begins middle front → Begins bytes front
+    (bytes middle front : List ℕ) → StandsInFront bytes middle → StandsInFront middle front → StandsInFront bytes front
 begins_on bytes middle front late early =
     let outer : bytes ≡ middle ++ drop (length middle) bytes =
-      sym (take-append-drop (length middle) bytes)
-      ∙ ap (λ (l : List ℕ). l ++ drop (length middle) bytes) late in
+    sym (take-append-drop (length middle) bytes)
+    ∙ ap (λ (l : List ℕ). l ++ drop (length middle) bytes) late in
     let inner : middle ≡ front ++ drop (length front) middle =
-      sym (take-append-drop (length front) middle)
-      ∙ ap (λ (l : List ℕ). l ++ drop (length front) middle) early in
+    sym (take-append-drop (length front) middle)
+    ∙ ap (λ (l : List ℕ). l ++ drop (length front) middle) early in
     begins_more bytes front (drop (length front) middle ++ drop (length middle) bytes)
     (outer ∙ ap (λ (l : List ℕ). l ++ drop (length middle) bytes) inner ∙ append_assoc front (drop (length front) middle) (drop (length middle) bytes))
 

@@ -10,7 +10,7 @@ use Rattle.tile_model.specs.declared.Letter.TheVariants.{L, R, X}
 use Rattle.tile_model.specs.WalkTexts.{letter_code, walk_text}
 use Rattle.reply_model.specs.declared.Command.{Command}
 use Rattle.reply_model.specs.Histories.{most_walkers}
-use Rattle.reply_model.specs.declared.Command.TheVariants.{New, Go, At, Same}
+use Rattle.reply_model.specs.declared.Command.TheVariants.{New, Go, At, Same, Level, Dist, Path}
 use Rattle.command_text.specs.CommandLines.{space, IsWalkerNumber, one_walker, two_walkers, walker_and_walk, word_of, operands_of, IsSpelling, SpellsNothing}
 use Rattle.command_text.specs.Words.{Lacks, IsInFront, AreToldBy, walker_alone, walkers, walker_with_walk, TellNothing}
 use Rattle.command_text.proofs.Splits.{lacks_none, one_split}
@@ -38,6 +38,7 @@ cut (byte ∷ bytes) = go (cases_eq byte space) (cut bytes) where
     lacks = All-cons (λ b. b ≢ space) byte c.front other c.lacks;
   })
   behind other (inr lacks) = inr (All-cons (λ b. b ≢ space) byte bytes other lacks)
+
   go :
       (byte ≡ space) ⊎ (byte ≢ space) → IsCut bytes ⊎ Lacks space bytes
       → IsCut (byte ∷ bytes) ⊎ Lacks space (byte ∷ bytes)
@@ -97,10 +98,12 @@ walk_or (byte ∷ bytes) = go (cases_eq byte 45) (letters_or (byte ∷ bytes)) b
       → (walk : List Letter) → walk_text walk ≢ byte ∷ bytes
   no_walk none other [] = other
   no_walk none other (x ∷ walk) = none (x ∷ walk)
+
   some_walk :
       (walk : List Letter) → map letter_code walk ≡ byte ∷ bytes → walk_text walk ≡ byte ∷ bytes
   some_walk [] e = absurd (cc)
   some_walk (x ∷ walk) e = e
+
   go :
       (byte ≡ 45) ⊎ (byte ≢ 45)
       → ((walk : List Letter) × (map letter_code walk ≡ byte ∷ bytes)) ⊎
@@ -123,11 +126,13 @@ module _ (law : (digits : List ℕ) (n : ℕ) → IsNumber digits n ↔ (number 
     other n w e is = the_same n w (sym e ∙ (law digits w).0 is.number) where
       the_same : (n w : ℕ) → Some n ≡ Some w → n ≡ w
       the_same n w f = cc f
+
     below :
         (n : ℕ) → number digits ≡ Some n → (n < most_walkers) ⊎ (most_walkers ≤ n)
         → ((w : ℕ) × IsWalkerNumber digits w) ⊎ ((w : ℕ) → ¬ (IsWalkerNumber digits w))
     below n e (inl small) = inl (n, record { number = (law digits n).1 e; below = small })
     below n e (inr large) = inr (λ w is. absurd (omega (arith, large, is.below, other n w e is)))
+
     go :
         (o : Option ℕ) → number digits ≡ o
         → ((w : ℕ) × IsWalkerNumber digits w) ⊎ ((w : ℕ) → ¬ (IsWalkerNumber digits w))
@@ -150,10 +155,11 @@ module _ (law : (digits : List ℕ) (n : ℕ) → IsNumber digits n ↔ (number 
     behind c (inl w) =
         inl (record { walker = w.0; rest = c.rest; in_front = record { digits = c.front; number = w.1; text = c.split } })
     behind c (inr none) = inr (λ w rest is.
-      let same =
+        let same =
         one_split space is.digits c.front rest c.rest (walker_lacks is.digits w is.number) c.lacks
         (sym is.text ∙ c.split) in
-      none w (subst (λ (l : List ℕ). IsWalkerNumber l w) same.0 is.number))
+        none w (subst (λ (l : List ℕ). IsWalkerNumber l w) same.0 is.number))
+
     go :
         IsCut bytes ⊎ Lacks space bytes
         → IsFront bytes ⊎ ((w : ℕ) (rest : List ℕ) → ¬ (IsInFront bytes w rest))
@@ -180,6 +186,7 @@ module _ (law : (digits : List ℕ) (n : ℕ) → IsNumber digits n ↔ (number 
         → ((p : ℕ × ℕ) × AreToldBy bytes (two_walkers p.0 p.1)) ⊎ TellNothing bytes walkers
     second f (inl v) = inl ((f.walker, v.0), tells_walkers bytes f.rest f.walker v.0 f.in_front v.1)
     second f (inr none) = inr (tell_no_second bytes f.rest f.walker f.in_front none)
+
     go :
         IsFront bytes ⊎ ((w : ℕ) (rest : List ℕ) → ¬ (IsInFront bytes w rest))
         → ((p : ℕ × ℕ) × AreToldBy bytes (two_walkers p.0 p.1)) ⊎ TellNothing bytes walkers
@@ -200,6 +207,7 @@ module _ (law : (digits : List ℕ) (n : ℕ) → IsNumber digits n ↔ (number 
     second f (inl walk) =
         inl ((f.walker, walk.0), tells_walk bytes f.rest f.walker walk.0 f.in_front walk.1)
     second f (inr none) = inr (tell_no_walk bytes f.rest f.walker f.in_front none)
+
     go :
         IsFront bytes ⊎ ((w : ℕ) (rest : List ℕ) → ¬ (IsInFront bytes w rest))
         → ((p : ℕ × List Letter) × AreToldBy bytes (walker_and_walk p.0 p.1)) ⊎ TellNothing bytes
@@ -232,21 +240,31 @@ module _ (law : (digits : List ℕ) (n : ℕ) → IsNumber digits n ↔ (number 
 
   by_word :
       (line word rest : List ℕ) → line ≡ word ++ space ∷ rest → Lacks space word → Decided line
-  by_word line word rest e lacks = go (is_word word (codes "new")) (is_word word (codes "go")) (is_word word (codes "at")) (is_word word (codes "same")) where
-    go :
-        (word ≡ codes "new") ⊎ (word ≢ codes "new") → (word ≡ codes "go") ⊎ (word ≢ codes "go")
-        → (word ≡ codes "at") ⊎ (word ≢ codes "at") → (word ≡ codes "same") ⊎ (word ≢ codes "same")
-        → Decided line
-    go (inl is) _ _ _ =
-        by_row line word rest (codes "new") New e lacks is (λ w. refl) (tell_walker rest)
-    go (inr _) (inl is) _ _ =
-        by_row line word rest (codes "go") (λ p. Go p.0 p.1) e lacks is (λ p. refl) (tell_walk rest)
-    go (inr _) (inr _) (inl is) _ =
-        by_row line word rest (codes "at") At e lacks is (λ w. refl) (tell_walker rest)
-    go (inr _) (inr _) (inr _) (inl is) =
-        by_row line word rest (codes "same") (λ p. Same p.0 p.1) e lacks is (λ p. refl)
-        (tell_walkers rest)
-    go (inr a) (inr b) (inr c) (inr d) = inr (unknown line word rest e lacks a b c d)
+  by_word line word rest e lacks =
+      or_else (is_word word (codes "new"))
+      (λ is. by_row line word rest (codes "new") New e lacks is (λ w. refl) (tell_walker rest))
+      (λ a. or_else (is_word word (codes "go"))
+      (λ is. by_row line word rest (codes "go") (λ p. Go p.0 p.1) e lacks is (λ p. refl)
+      (tell_walk rest))
+      (λ b. or_else (is_word word (codes "at"))
+      (λ is. by_row line word rest (codes "at") At e lacks is (λ w. refl) (tell_walker rest))
+      (λ c. or_else (is_word word (codes "same"))
+      (λ is. by_row line word rest (codes "same") (λ p. Same p.0 p.1) e lacks is (λ p. refl)
+      (tell_walkers rest))
+      (λ d. or_else (is_word word (codes "level"))
+      (λ is. by_row line word rest (codes "level") Level e lacks is (λ w. refl) (tell_walker rest))
+      (λ f. or_else (is_word word (codes "dist"))
+      (λ is. by_row line word rest (codes "dist") (λ p. Dist p.0 p.1) e lacks is (λ p. refl)
+      (tell_walkers rest))
+      (λ g. or_else (is_word word (codes "path"))
+      (λ is. by_row line word rest (codes "path") (λ p. Path p.0 p.1) e lacks is (λ p. refl)
+      (tell_walkers rest))
+      (λ h. inr (unknown line word rest e lacks a b c d f g h))))))))
+    where
+      or_else :
+          {P : Type 0} → P ⊎ ¬ P → (P → Decided line) → (¬ P → Decided line) → Decided line
+      or_else (inl p) f g = f p
+      or_else (inr n) f g = g n
 
   pub decided : (line : List ℕ) → Decided line
   decided line = go (cut line) where

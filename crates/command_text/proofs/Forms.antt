@@ -5,7 +5,7 @@ use Rattle.std.specs.Str.{bytes_eq}
 use Rattle.std.proofs.lemmas.List.Elements.{All-nil, All-cons}
 use Rattle.tile_model.specs.declared.Letter.{Letter}
 use Rattle.reply_model.specs.declared.Command.{Command}
-use Rattle.reply_model.specs.declared.Command.TheVariants.{New, Go, At, Same}
+use Rattle.reply_model.specs.declared.Command.TheVariants.{New, Go, At, Same, Level, Dist, Path}
 use Rattle.command_text.specs.CommandLines.{space, spaced, Operands, one_walker, two_walkers, walker_and_walk, word_of, operands_of, IsSpelling, SpellsNothing}
 use Rattle.command_text.specs.Words.{Lacks, AreToldBy, Shape, walker_alone, walkers, walker_with_walk, shape_of, TellNothing}
 use Rattle.command_text.specs.declared.command.LineFault.{LineFault}
@@ -37,7 +37,10 @@ form word =
     if bytes_eq word (codes "new") then record { shape = walker_alone; make = of_walker New }
     else if bytes_eq word (codes "go") then record { shape = walker_with_walk; make = of_walk Go }
     else if bytes_eq word (codes "at") then record { shape = walker_alone; make = of_walker At }
-    else record { shape = walkers; make = of_walkers Same }
+    else if bytes_eq word (codes "same") then record { shape = walkers; make = of_walkers Same }
+    else if bytes_eq word (codes "level") then record { shape = walker_alone; make = of_walker Level }
+    else if bytes_eq word (codes "dist") then record { shape = walkers; make = of_walkers Dist }
+    else record { shape = walkers; make = of_walkers Path }
 
 -- each command has a row of the table
 has_shape : (c : Command) → (form (word_of c)).shape ≡ shape_of (operands_of c)
@@ -45,12 +48,18 @@ has_shape (New w) = refl
 has_shape (Go w walk) = refl
 has_shape (At w) = refl
 has_shape (Same w v) = refl
+has_shape (Level w) = refl
+has_shape (Dist w v) = refl
+has_shape (Path w v) = refl
 
 is_made : (c : Command) → (form (word_of c)).make (operands_of c) ≡ Some c
 is_made (New w) = refl
 is_made (Go w walk) = refl
 is_made (At w) = refl
 is_made (Same w v) = refl
+is_made (Level w) = refl
+is_made (Dist w v) = refl
+is_made (Path w v) = refl
 
 -- the byte is another one than a space
 abbrev is_other : ℕ → Bool
@@ -79,6 +88,9 @@ lacks_space (New w) = lacks_by (codes "new") refl
 lacks_space (Go w walk) = lacks_by (codes "go") refl
 lacks_space (At w) = lacks_by (codes "at") refl
 lacks_space (Same w v) = lacks_by (codes "same") refl
+lacks_space (Level w) = lacks_by (codes "level") refl
+lacks_space (Dist w v) = lacks_by (codes "dist") refl
+lacks_space (Path w v) = lacks_by (codes "path") refl
 
 -- the line of a command, cut behind its first word
 pub record IsParted (line : List ℕ) (c : Command) : Type 0 where
@@ -102,13 +114,13 @@ unique line c d is also =
     let p = parts line c is in
     let q = parts line d also in
     let same =
-      one_split space (word_of c) (word_of d) p.rest q.rest (lacks_space c) (lacks_space d)
-      (sym p.text ∙ q.text) in
+    one_split space (word_of c) (word_of d) p.rest q.rest (lacks_space c) (lacks_space d)
+    (sym p.text ∙ q.text) in
     let shape =
-      sym (has_shape c) ∙ ap (λ (word : List ℕ). (form word).shape) same.0 ∙ has_shape d in
+    sym (has_shape c) ∙ ap (λ (word : List ℕ). (form word).shape) same.0 ∙ has_shape d in
     let told =
-      one_told q.rest (operands_of c) (operands_of d)
-      (subst (λ (l : List ℕ). AreToldBy l (operands_of c)) same.1 p.told) q.told shape in
+    one_told q.rest (operands_of c) (operands_of d)
+    (subst (λ (l : List ℕ). AreToldBy l (operands_of c)) same.1 p.told) q.told shape in
     ap (the_command c)
     (sym (is_made c) ∙ ap₂ (λ (word : List ℕ) (o : Operands). (form word).make o) same.0 told ∙ is_made d)
 
@@ -132,18 +144,18 @@ module _ (line word rest : List ℕ) (e : line ≡ word ++ space ∷ rest) (lack
   tells_nothing known is none = λ c spelt.
       let p = parts line c spelt in
       let same =
-        one_split space (word_of c) word p.rest rest (lacks_space c) lacks (sym p.text ∙ e) in
+      one_split space (word_of c) word p.rest rest (lacks_space c) lacks (sym p.text ∙ e) in
       none (operands_of c) (sym (has_shape c) ∙ ap (λ (l : List ℕ). (form l).shape) (same.0 ∙ is))
       (subst (λ (l : List ℕ). AreToldBy l (operands_of c)) same.1 p.told)
 
   -- a word that begins no line of a command
   pub unknown :
       word ≢ codes "new" → word ≢ codes "go" → word ≢ codes "at" → word ≢ codes "same"
-      → SpellsNothing line
-  unknown not_new not_go not_at not_same = λ c spelt.
+      → word ≢ codes "level" → word ≢ codes "dist" → word ≢ codes "path" → SpellsNothing line
+  unknown not_new not_go not_at not_same not_level not_dist not_path = λ c spelt.
       let p = parts line c spelt in
       let same =
-        one_split space (word_of c) word p.rest rest (lacks_space c) lacks (sym p.text ∙ e) in
+      one_split space (word_of c) word p.rest rest (lacks_space c) lacks (sym p.text ∙ e) in
       no_word c (sym same.0)
     where
       no_word : (c : Command) → word ≢ word_of c
@@ -151,6 +163,9 @@ module _ (line word rest : List ℕ) (e : line ≡ word ++ space ∷ rest) (lack
       no_word (Go w walk) = not_go
       no_word (At w) = not_at
       no_word (Same w v) = not_same
+      no_word (Level w) = not_level
+      no_word (Dist w v) = not_dist
+      no_word (Path w v) = not_path
 
 -- one word alone
 pub one_word : (line : List ℕ) → Lacks space line → SpellsNothing line

@@ -14,8 +14,8 @@ pub one_front :
     → IsInFront bytes v tail → (w ≡ v) × (rest ≡ tail)
 one_front bytes w v rest tail is is' =
     let same =
-      one_split space is.digits is'.digits rest tail (walker_lacks is.digits w is.number)
-      (walker_lacks is'.digits v is'.number) (sym is.text ∙ is'.text) in
+    one_split space is.digits is'.digits rest tail (walker_lacks is.digits w is.number)
+    (walker_lacks is'.digits v is'.number) (sym is.text ∙ is'.text) in
     (one_number is.digits is'.digits w v same.0 is.number is'.number, same.1)
 
 same_told :
@@ -25,14 +25,14 @@ same_told (by_number w digits is) (by_number v others is') e s =
     ap one_walker (one_number digits others w v e is is')
 same_told (by_numbers w v first second is too) (by_numbers w' v' first' second' is' too') e s =
     let same =
-      one_split space first first' second second' (walker_lacks first w is)
-      (walker_lacks first' w' is') e in
+    one_split space first first' second second' (walker_lacks first w is)
+    (walker_lacks first' w' is') e in
     ap₂ two_walkers (one_number first first' w w' same.0 is is')
     (one_number second second' v v' same.1 too too')
 same_told (by_number_and_letters w walk digits is) (by_number_and_letters w' walk' digits' is') e s =
     let same =
-      one_split space digits digits' (walk_text walk) (walk_text walk') (walker_lacks digits w is)
-      (walker_lacks digits' w' is') e in
+    one_split space digits digits' (walk_text walk) (walk_text walk') (walker_lacks digits w is)
+    (walker_lacks digits' w' is') e in
     ap₂ walker_and_walk (one_number digits digits' w w' same.0 is is') (one_walk walk walk' same.1)
 same_told (by_number w digits is) (by_numbers w' v' first' second' is' too') e s = absurd (cc)
 same_told (by_number w digits is) (by_number_and_letters w' walk' digits' is') e s = absurd (cc)
@@ -119,7 +119,7 @@ no_second bytes rest w front none (by_number w' digits is) e s = absurd (cc)
 no_second bytes rest w front none (by_number_and_letters w' walk digits is) e s = absurd (cc)
 no_second bytes rest w front none (by_numbers w' v first second is too) e s =
     let same =
-      one_front bytes w w' rest second front (record { digits = first; number = is; text = e }) in
+    one_front bytes w w' rest second front (record { digits = first; number = is; text = e }) in
     none v (subst (λ (l : List ℕ). IsWalkerNumber l v) (sym same.1) too)
 
 pub tell_no_second :
@@ -137,8 +137,8 @@ no_walk bytes rest w front none (by_number w' digits is) e s = absurd (cc)
 no_walk bytes rest w front none (by_numbers w' v first second is too) e s = absurd (cc)
 no_walk bytes rest w front none (by_number_and_letters w' walk digits is) e s =
     let same =
-      one_front bytes w w' rest (walk_text walk) front
-      (record { digits = digits; number = is; text = e }) in
+    one_front bytes w w' rest (walk_text walk) front
+    (record { digits = digits; number = is; text = e }) in
     none walk (sym same.1)
 
 pub tell_no_walk :

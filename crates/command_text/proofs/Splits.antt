@@ -27,8 +27,8 @@ pub cut_at_slice :
     → bytes ≡ take k bytes ++ byte ∷ take (length bytes - (k + 1)) (drop (k + 1) bytes)
 cut_at_slice byte bytes k inside passes =
     let whole : take (length bytes - (k + 1)) (drop (k + 1) bytes) ≡ drop (k + 1) bytes =
-      take_all (length bytes - (k + 1)) (drop (k + 1) bytes)
-      (rw (length-drop (k + 1) bytes) (omega arith)) in
+    take_all (length bytes - (k + 1)) (drop (k + 1) bytes)
+    (rw (length-drop (k + 1) bytes) (omega arith)) in
     cut_at_first byte bytes k inside passes
     ∙ ap (λ (l : List ℕ). take k bytes ++ byte ∷ l) (sym whole)
 
@@ -75,6 +75,6 @@ one_split byte (b ∷ front) [] rest tail lacks too e =
 one_split byte (b ∷ front) (b' ∷ other) rest tail lacks too e =
     let head : b ≡ b' = ap (λ (l : List ℕ). get_or l 0 0) e in
     let same =
-      one_split byte front other rest tail (All-tail (Differs byte) b front lacks)
-      (All-tail (Differs byte) b' other too) (ap (λ (l : List ℕ). drop 1 l) e) in
+    one_split byte front other rest tail (All-tail (Differs byte) b front lacks)
+    (All-tail (Differs byte) b' other too) (ap (λ (l : List ℕ). drop 1 l) e) in
     (cc (head, same.0), same.1)

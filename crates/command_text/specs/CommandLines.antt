@@ -4,7 +4,7 @@ use Rattle.std.specs.List.{join_with_byte}
 use Rattle.short_numbers.specs.Numbers.{IsNumber}
 use Rattle.tile_model.specs.declared.Letter.{Letter}
 use Rattle.reply_model.specs.declared.Command.{Command}
-use Rattle.reply_model.specs.declared.Command.TheVariants.{New, Go, At, Same}
+use Rattle.reply_model.specs.declared.Command.TheVariants.{New, Go, At, Same, Level, Dist, Path}
 use Rattle.reply_model.specs.Histories.{most_walkers}
 use Rattle.tile_model.specs.WalkTexts.{walk_text}
 
@@ -53,6 +53,9 @@ word_of (New w) = codes "new"
 word_of (Go w walk) = codes "go"
 word_of (At w) = codes "at"
 word_of (Same w v) = codes "same"
+word_of (Level w) = codes "level"
+word_of (Dist w v) = codes "dist"
+word_of (Path w v) = codes "path"
 
 -- what the command is told behind it
 abbrev pub operands_of : Command → Operands
@@ -60,6 +63,9 @@ operands_of (New w) = one_walker w
 operands_of (Go w walk) = walker_and_walk w walk
 operands_of (At w) = one_walker w
 operands_of (Same w v) = two_walkers w v
+operands_of (Level w) = one_walker w
+operands_of (Dist w v) = two_walkers w v
+operands_of (Path w v) = two_walkers w v
 
 -- the line spells the command
 pub record IsSpelling (line : List ℕ) (c : Command) : Type 0 where

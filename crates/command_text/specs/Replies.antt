@@ -1,9 +1,11 @@
 -- The lines of replies.
 use Rattle.std.specs.Prelude.{◌≡◌, ℕ, List, [], ◌∷◌, ◌++◌, length, take, codes, decimal}
 use Rattle.reply_model.specs.declared.Reply.{Reply}
-use Rattle.reply_model.specs.declared.Reply.TheVariants.{Done, At, Yes, No, NoWalker, Taken, Deep}
+use Rattle.reply_model.specs.declared.Reply.TheVariants.{Done, At, Yes, No, Level, Dist, Path, NoWalker, Taken, Deep}
+use Rattle.tile_model.specs.declared.Letter.{Letter}
+use Rattle.tile_model.specs.WalkTexts.{walk_text}
 use Rattle.cell_names.specs.Text.{name_text}
-use Rattle.command_text.specs.CommandLines.{spaced}
+use Rattle.command_text.specs.CommandLines.{space, spaced}
 
 -- what ends a line
 abbrev pub line_feed : List ℕ
@@ -13,12 +15,23 @@ line_feed = 10 ∷ []
 abbrev pub place_words : List ℕ → ℕ → ℕ → List ℕ
 place_words name spin kind = spaced (codes "at" ∷ name_text name ∷ decimal spin ∷ decimal kind ∷ [])
 
+-- a word and a number, as in `level N`
+abbrev pub number_words : List ℕ → ℕ → List ℕ
+number_words word number = word ++ space ∷ decimal number
+
+-- `path LETTERS`
+abbrev pub path_words : List Letter → List ℕ
+path_words walk = codes "path" ++ space ∷ walk_text walk
+
 -- the words of a reply
 abbrev pub reply_words : Reply → List ℕ
 reply_words Done = codes "ok"
 reply_words (At name spin kind) = place_words name spin kind
 reply_words Yes = codes "yes"
 reply_words No = codes "no"
+reply_words (Level crossings) = number_words (codes "level") crossings
+reply_words (Dist crossings) = number_words (codes "dist") crossings
+reply_words (Path walk) = path_words walk
 reply_words NoWalker = codes "no walker"
 reply_words Taken = codes "taken"
 reply_words Deep = codes "deep"
@@ -28,5 +41,5 @@ abbrev pub reply_text : Reply → List ℕ
 reply_text x = reply_words x ++ line_feed
 
 -- the bytes begin with these
-abbrev pub Begins : List ℕ → List ℕ → Type 0
-Begins bytes front = take (length front) bytes ≡ front
+abbrev pub StandsInFront : List ℕ → List ℕ → Type 0
+StandsInFront bytes front = take (length front) bytes ≡ front

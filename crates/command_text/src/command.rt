@@ -32,8 +32,8 @@ pub enum LineFault {
 
 /// Reads the line of a command, without its line feed.
 ///
-/// The forms are `new W`, `go W LETTERS`, `at W` and `same W V`, with exactly one space between two
-/// words.
+/// The forms are `new W`, `go W LETTERS`, `at W`, `same W V`, `level W`, `dist W V` and `path W V`,
+/// with exactly one space between two words.
 /// W and V are numbers of walkers: one to nine digits, leading zeros allowed, of a value from 0 to
 /// 63.
 /// LETTERS is the text of a walk.
@@ -88,6 +88,17 @@ fn read_form(alloc: Global, line: &[u8]) -> Result<Command, LineFault>
     if word == b"same".as_slice() {
         let (w, v) = read_two_walkers(rest)?;
         return Ok(Command::Same(w, v));
+    }
+    if word == b"level".as_slice() {
+        return Ok(Command::Level(read_walker(rest)?));
+    }
+    if word == b"dist".as_slice() {
+        let (w, v) = read_two_walkers(rest)?;
+        return Ok(Command::Dist(w, v));
+    }
+    if word == b"path".as_slice() {
+        let (w, v) = read_two_walkers(rest)?;
+        return Ok(Command::Path(w, v));
     }
     Err(LineFault::Bad)
 }

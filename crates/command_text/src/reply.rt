@@ -1,12 +1,13 @@
 //! The lines of replies, printed.
 ghost use Rattle.std.specs.Prelude.{◌≡◌, ◌∷◌, ◌++◌, codes, decimal, OnOk, OnErr};
 ghost use Rattle.cell_names.specs.Text.{name_text};
-ghost use Rattle.command_text.specs.Replies.{Begins, line_feed, place_words, reply_text};
+ghost use Rattle.command_text.specs.Replies.{StandsInFront, line_feed, number_words, path_words, place_words, reply_text};
 
 use cell_names::{Name, write_name};
 use itoa::Buffer;
 use reply_model::Reply;
 use std::alloc::AllocError;
+use walk_words::{Walk, print_walk};
 
 /// The line that answers a line of over 8,192 bytes, with its line feed.
 pub fn too_long_line() -> &'static [u8]
@@ -27,49 +28,76 @@ pub fn write_reply(out: &mut Vec<u8>, x: &Reply) -> Result<(), AllocError>
     ensures written { OnOk result (out.new.items ≡ out.old.items ++ reply_text x.now) }
     ensures unchanged { OnErr result (out.new.items ≡ out.old.items) }
 {
-    match x {
-        Reply::Done => out.extend_from_slice(b"ok\n"),
-        Reply::At { name, spin, kind } => write_place(out, name, *spin, *kind),
-        Reply::Yes => out.extend_from_slice(b"yes\n"),
-        Reply::No => out.extend_from_slice(b"no\n"),
-        Reply::NoWalker => out.extend_from_slice(b"no walker\n"),
-        Reply::Taken => out.extend_from_slice(b"taken\n"),
-        Reply::Deep => out.extend_from_slice(b"deep\n"),
-    }
-}
-
-/// Appends the line of a place, or leaves the bytes as they were.
-fn write_place(out: &mut Vec<u8>, name: &Name, spin: u8, kind: u8) -> Result<(), AllocError>
-    ensures written { OnOk result
-        (out.new.items ≡ out.old.items ++ place_words name.now spin kind ++ line_feed) }
-    ensures unchanged { OnErr result (out.new.items ≡ out.old.items) }
-{
     let start = out.len();
-    let written = append_place(out, name, spin, kind);
+    let written = append_reply(out, x);
     if written.is_err() {
         out.truncate(start);
     }
     written
 }
 
+/// Appends the line of a reply, or some bytes.
+fn append_reply(out: &mut Vec<u8>, x: &Reply) -> Result<(), AllocError>
+    ensures written { OnOk result (out.new.items ≡ out.old.items ++ reply_text x.now) }
+    ensures kept { OnErr result (StandsInFront out.new.items out.old.items) }
+{
+    match x {
+        Reply::Done => out.extend_from_slice(b"ok\n"),
+        Reply::At { name, spin, kind } => append_place(out, name, *spin, *kind),
+        Reply::Yes => out.extend_from_slice(b"yes\n"),
+        Reply::No => out.extend_from_slice(b"no\n"),
+        Reply::Level(crossings) => append_counted(out, b"level", *crossings),
+        Reply::Dist(crossings) => append_counted(out, b"dist", *crossings),
+        Reply::Path(walk) => append_path(out, walk),
+        Reply::NoWalker => out.extend_from_slice(b"no walker\n"),
+        Reply::Taken => out.extend_from_slice(b"taken\n"),
+        Reply::Deep => out.extend_from_slice(b"deep\n"),
+    }
+}
+
+/// Appends the line of a word and a number, or some bytes.
+fn append_counted(out: &mut Vec<u8>, word: &[u8], number: u32) -> Result<(), AllocError>
+    ensures written { OnOk result
+        (out.new.items ≡ out.old.items ++ number_words word.now number ++ line_feed) }
+    ensures kept { OnErr result (StandsInFront out.new.items out.old.items) }
+{
+    out.extend_from_slice(word)?;
+    append_number(out, b' ', number)?;
+    out.push(b'\n')?;
+    Ok(())
+}
+
+/// Appends the line of a walk, or some bytes.
+fn append_path(out: &mut Vec<u8>, walk: &Walk) -> Result<(), AllocError>
+    ensures written { OnOk result
+        (out.new.items ≡ out.old.items ++ path_words walk.now ++ line_feed) }
+    ensures kept { OnErr result (StandsInFront out.new.items out.old.items) }
+{
+    let text = print_walk(*out.allocator(), walk)?;
+    out.extend_from_slice(b"path ")?;
+    out.extend_from_slice(&text)?;
+    out.push(b'\n')?;
+    Ok(())
+}
+
 /// Appends the line of a place, or some bytes.
 fn append_place(out: &mut Vec<u8>, name: &Name, spin: u8, kind: u8) -> Result<(), AllocError>
     ensures written { OnOk result
         (out.new.items ≡ out.old.items ++ place_words name.now spin kind ++ line_feed) }
-    ensures kept { OnErr result (Begins out.new.items out.old.items) }
+    ensures kept { OnErr result (StandsInFront out.new.items out.old.items) }
 {
     out.extend_from_slice(b"at ")?;
     write_name(out, name)?;
-    append_number(out, b' ', spin)?;
-    append_number(out, b' ', kind)?;
+    append_number(out, b' ', u32::from(spin))?;
+    append_number(out, b' ', u32::from(kind))?;
     out.push(b'\n')?;
     Ok(())
 }
 
 /// Appends a byte and a number, or some bytes.
-fn append_number(out: &mut Vec<u8>, separator: u8, number: u8) -> Result<(), AllocError>
+fn append_number(out: &mut Vec<u8>, separator: u8, number: u32) -> Result<(), AllocError>
     ensures written { OnOk result (out.new.items ≡ out.old.items ++ separator ∷ decimal number) }
-    ensures kept { OnErr result (Begins out.new.items out.old.items) }
+    ensures kept { OnErr result (StandsInFront out.new.items out.old.items) }
 {
     let mut buffer = Buffer::new();
     out.push(separator)?;

@@ -1,10 +1,11 @@
 // Lines read and printed, compared with values from outside.
 use crate::{
-    Command, LONGEST_LINE, LineFault, Reply, bad_line, cut_at, laws, read_line,
-    too_long_line, write_reply,
+    Command, LONGEST_LINE, LineFault, Reply, bad_line, cut_at, laws, read_line, too_long_line,
+    write_reply,
 };
 use cell_names::read_name;
 use std::test::Fail;
+use walk_words::{Walk, read_walk};
 
 #[test]
 fn lines_of_each_form_are_read(rt: HostRuntime) -> Result<(), Fail> {
@@ -17,12 +18,18 @@ fn lines_of_each_form_are_read(rt: HostRuntime) -> Result<(), Fail> {
         ("go 07 -", Some((1, 7, 0))),
         ("at 12", Some((2, 12, 0))),
         ("same 3 40", Some((3, 3, 40))),
+        ("level 5", Some((4, 5, 0))),
+        ("dist 1 0", Some((5, 1, 0))),
+        ("path 0 063", Some((6, 0, 63))),
     ] {
         let read = match read_line(alloc, line.as_bytes()) {
             Ok(Command::New(w)) => Some((0, w, 0)),
             Ok(Command::Go(w, walk)) => Some((1, w, walk.len())),
             Ok(Command::At(w)) => Some((2, w, 0)),
             Ok(Command::Same(w, v)) => Some((3, w, usize::from(v))),
+            Ok(Command::Level(w)) => Some((4, w, 0)),
+            Ok(Command::Dist(w, v)) => Some((5, w, usize::from(v))),
+            Ok(Command::Path(w, v)) => Some((6, w, usize::from(v))),
             Err(_) => None,
         };
         assert_eq!(rt; read, want, "{line}");
@@ -53,6 +60,9 @@ fn lines_in_no_form_are_bad(rt: HostRuntime) -> Result<(), Fail> {
         "same 0",
         "same 0 1 2",
         "same 0 64",
+        "level",
+        "dist 0",
+        "path 0 1 2",
     ] {
         let fault = read_line(alloc, line.as_bytes()).err();
         assert_eq!(rt; fault, Some(LineFault::Bad), "{line}");
@@ -78,6 +88,7 @@ fn replies_are_lines(rt: HostRuntime) -> Result<(), Fail> {
     let alloc = rt.alloc();
     let name = read_name(alloc, b"0.14")?;
     let root = read_name(alloc, b"-")?;
+    let way = read_walk(alloc, b"XLLLLX")?;
     for (reply, want) in [
         (Reply::Done, "ok\n"),
         (
@@ -98,6 +109,10 @@ fn replies_are_lines(rt: HostRuntime) -> Result<(), Fail> {
         ),
         (Reply::Yes, "yes\n"),
         (Reply::No, "no\n"),
+        (Reply::Level(2), "level 2\n"),
+        (Reply::Dist(4_000), "dist 4000\n"),
+        (Reply::Path(way), "path XLLLLX\n"),
+        (Reply::Path(Walk::new(alloc)), "path -\n"),
         (Reply::NoWalker, "no walker\n"),
         (Reply::Taken, "taken\n"),
         (Reply::Deep, "deep\n"),

@@ -3,7 +3,7 @@ use Rattle.std.proofs.Common.{◌≡◌, ◌≢◌, ℕ, ◌<◌, ◌≤◌, Boo
 use Rattle.std.proofs.lemmas.List.{length-append}
 use Rattle.std.specs.Prelude.{Result, Ok, Err, OnOk, OnErr}
 use Rattle.reply_model.specs.declared.Command.{Command}
-use Rattle.reply_model.specs.declared.Command.TheVariants.{New, Go, At, Same}
+use Rattle.reply_model.specs.declared.Command.TheVariants.{New, Go, At, Same, Level, Dist, Path}
 use Rattle.reply_model.specs.declared.Reply.{Reply}
 use Rattle.command_text.specs.CommandLines.{Operands, one_walker, two_walkers, walker_and_walk, AreTold, by_number, by_numbers, by_number_and_letters, IsSpelling, SpellsNothing, most_of_line}
 use Rattle.command_text.specs.Replies.{reply_text}
@@ -49,44 +49,79 @@ numbers_told text (New w) s = are_numbers s.told
 numbers_told text (Go w walk) s = are_numbers s.told
 numbers_told text (At w) s = are_numbers s.told
 numbers_told text (Same w v) s = are_numbers s.told
+numbers_told text (Level w) s = are_numbers s.told
+numbers_told text (Dist w v) s = are_numbers s.told
+numbers_told text (Path w v) s = are_numbers s.told
 
 -- a session that stays as it is, and says this to the line
-stays : (s : SessionState) (line text answer : List ℕ) → ((before : History) → IsAnswered (answering_of s) before line text answer before) → AnswersLine s s line text answer
-stays s line text answer said = record { rules = refl; kind = refl; stands = λ before stands. (before, said before, stands) }
+stays :
+    (s : SessionState) (line text answer : List ℕ)
+    → ((before : History) → IsAnswered (answering_of s) before line text answer before)
+    → AnswersLine s s line text answer
+stays s line text answer said =
+    record { rules = refl; kind = refl; stands = λ before stands. (before, said before, stands) }
 
 module _ (tells : Bool) (s : SessionState) (line text taken waiting : List ℕ) where
   -- an answer that changes nothing
-  pub replies_so : (answer taken' waiting' : List ℕ) → ((h : History) → IsAnswered (answering_of s) h line text answer h) → HasSaid tells taken waiting answer taken' waiting' → HasReplied tells s line text taken waiting s taken' waiting'
-  replies_so answer taken' waiting' told said = record { answer = answer; said = said; session = stays s line text answer told }
+  pub replies_so :
+      (answer taken' waiting' : List ℕ)
+      → ((h : History) → IsAnswered (answering_of s) h line text answer h)
+      → HasSaid tells taken waiting answer taken' waiting'
+      → HasReplied tells s line text taken waiting s taken' waiting'
+  replies_so answer taken' waiting' told said =
+      record { answer = answer; said = said; session = stays s line text answer told }
 
-  pub fails_so : (answer taken' : List ℕ) → ((h : History) → IsAnswered (answering_of s) h line text answer h) → HasBroken tells taken waiting answer taken' → HasFailed tells s line text taken waiting taken'
+  pub fails_so :
+      (answer taken' : List ℕ) → ((h : History) → IsAnswered (answering_of s) h line text answer h)
+      → HasBroken tells taken waiting answer taken'
+      → HasFailed tells s line text taken waiting taken'
   fails_so answer taken' told broken = partly answer (λ h here. (h, told h)) broken
 
-  pub says_nothing : length line ≤ most_of_line → text ≡ [] → HasReplied tells s line text taken waiting s taken waiting
-  says_nothing short none = replies_so [] taken waiting (λ h. empty short none) (says_none tells taken waiting)
+  pub says_nothing :
+      length line ≤ most_of_line → text ≡ []
+      → HasReplied tells s line text taken waiting s taken waiting
+  says_nothing short none =
+      replies_so [] taken waiting (λ h. empty short none) (says_none tells taken waiting)
 
   pub fails_before : HasFailed tells s line text taken waiting taken
   fails_before = nothing (breaks_none tells taken waiting)
 
-pub is_too_long : (s : SessionState) (line text : List ℕ) → most_of_line < length line → (h : History) → IsAnswered (answering_of s) h line text too_long_text h
+pub is_too_long :
+    (s : SessionState) (line text : List ℕ) → most_of_line < length line → (h : History)
+    → IsAnswered (answering_of s) h line text too_long_text h
 is_too_long s line text long h = too_long long
 
-pub is_bad : (s : SessionState) (line text : List ℕ) → length line ≤ most_of_line → text ≢ [] → SpellsNothing text → (h : History) → IsAnswered (answering_of s) h line text bad_text h
+pub is_bad :
+    (s : SessionState) (line text : List ℕ) → length line ≤ most_of_line → text ≢ []
+    → SpellsNothing text → (h : History) → IsAnswered (answering_of s) h line text bad_text h
 is_bad s line text short some unspelt h = bad short some unspelt
 
 module _ (tells : Bool) (old new : SessionState) (line text taken waiting : List ℕ) (c : Command) (x : Reply) (short : length line ≤ most_of_line) (spelt : IsSpelling text c) (due : (history : History) → StandsForWalks old history → (answering_of old).IsDue history c x) where
-  pub replies : (taken' waiting' : List ℕ) → ((history : History) → StandsForWalks old history → StandsForWalks new (history ++ (c, x) ∷ [])) → new.rules ≡ old.rules → new.kind ≡ old.kind → HasSaid tells taken waiting (reply_text x) taken' waiting' → HasReplied tells old line text taken waiting new taken' waiting'
+  pub replies :
+      (taken' waiting' : List ℕ)
+      → ((history : History) → StandsForWalks old history → StandsForWalks new (history ++ (c, x) ∷ []))
+      → new.rules ≡ old.rules → new.kind ≡ old.kind
+      → HasSaid tells taken waiting (reply_text x) taken' waiting'
+      → HasReplied tells old line text taken waiting new taken' waiting'
   replies taken' waiting' stands rules kind said = record {
     answer = reply_text x;
     said = said;
-    session = record { rules = rules; kind = kind; stands = λ history here. (history ++ (c, x) ∷ [], replied short c x (reply_text x) spelt (due history here) refl, stands history here) };
+    session =
+        record { rules = rules; kind = kind; stands = λ history here. (history ++ (c, x) ∷ [], replied short c x (reply_text x) spelt (due history here) refl, stands history here) };
   }
 
-  pub fails_replying : (taken' : List ℕ) → HasBroken tells taken waiting (reply_text x) taken' → HasFailed tells old line text taken waiting taken'
-  fails_replying taken' broken = partly (reply_text x) (λ history here. (history ++ (c, x) ∷ [], replied short c x (reply_text x) spelt (due history here) refl)) broken
+  pub fails_replying :
+      (taken' : List ℕ) → HasBroken tells taken waiting (reply_text x) taken'
+      → HasFailed tells old line text taken waiting taken'
+  fails_replying taken' broken =
+      partly (reply_text x)
+      (λ history here. (history ++ (c, x) ∷ [], replied short c x (reply_text x) spelt (due history here) refl))
+      broken
 
 -- a line whose beginning was dropped
-pub lost_is_long : (dropped line : List ℕ) → most_of_line < length dropped → most_of_line < length (dropped ++ line)
+pub lost_is_long :
+    (dropped line : List ℕ) → most_of_line < length dropped
+    → most_of_line < length (dropped ++ line)
 lost_is_long dropped line long = rw (length-append dropped line) (omega (arith, long))
 
 -- a line of which nothing was dropped
@@ -94,10 +129,18 @@ module _ (dropped line text whole : List ℕ) (none : dropped ≡ []) (e : whole
   kept_line : line ≡ dropped ++ line
   kept_line = ap (λ l. l ++ line) (sym none)
 
-  pub replies_kept : (tells : Bool) (old new : SessionState) (taken waiting taken' waiting' : List ℕ) → HasReplied tells old line text taken waiting new taken' waiting' → HasReplied tells old (dropped ++ line) whole taken waiting new taken' waiting'
+  pub replies_kept :
+      (tells : Bool) (old new : SessionState) (taken waiting taken' waiting' : List ℕ)
+      → HasReplied tells old line text taken waiting new taken' waiting'
+      → HasReplied tells old (dropped ++ line) whole taken waiting new taken' waiting'
   replies_kept tells old new taken waiting taken' waiting' r =
-      subst (λ l. HasReplied tells old l whole taken waiting new taken' waiting') kept_line (subst (λ t. HasReplied tells old line t taken waiting new taken' waiting') (sym e) r)
+      subst (λ l. HasReplied tells old l whole taken waiting new taken' waiting') kept_line
+      (subst (λ t. HasReplied tells old line t taken waiting new taken' waiting') (sym e) r)
 
-  pub fails_kept : (tells : Bool) (old : SessionState) (taken waiting taken' : List ℕ) → HasFailed tells old line text taken waiting taken' → HasFailed tells old (dropped ++ line) whole taken waiting taken'
+  pub fails_kept :
+      (tells : Bool) (old : SessionState) (taken waiting taken' : List ℕ)
+      → HasFailed tells old line text taken waiting taken'
+      → HasFailed tells old (dropped ++ line) whole taken waiting taken'
   fails_kept tells old taken waiting taken' f =
-      subst (λ l. HasFailed tells old l whole taken waiting taken') kept_line (subst (λ t. HasFailed tells old line t taken waiting taken') (sym e) f)
+      subst (λ l. HasFailed tells old l whole taken waiting taken') kept_line
+      (subst (λ t. HasFailed tells old line t taken waiting taken') (sym e) f)

@@ -35,28 +35,43 @@ module _ (gives takes : Bool) (old : SessionState) (left taken : List ℕ) (new 
   abbrev Ends : Ending → Type 0
   Ends result = EndsAs gives takes old left taken new left' taken' result
 
-  pub ended : (result : Ending) → Ends result → IsTrue gives → result ≡ Done → (left' ≡ []) × (length left ≤ most_of_stream)
-  ended _ (ends_done bytes out given few session written) t e = ((given t).1, subst (λ l. length l ≤ most_of_stream) (sym (given t).0) few)
+  pub ended :
+      (result : Ending) → Ends result → IsTrue gives → result ≡ Done
+      → (left' ≡ []) × (length left ≤ most_of_stream)
+  ended _ (ends_done bytes out given few session written) t e =
+      ((given t).1, subst (λ l. length l ≤ most_of_stream) (sym (given t).0) few)
   ended _ (ends_unread bytes out given few session written) t e = absurd (cc)
   ended _ (ends_over bytes more out given full some session written) t e = absurd (cc)
   ended _ (ends_stopped stop bytes out given front written) t e = absurd (not_done stop e)
 
-  pub overrun : (result : Ending) → Ends result → IsTrue gives → result ≡ InputTooLong → most_of_stream < length left
+  pub overrun :
+      (result : Ending) → Ends result → IsTrue gives → result ≡ InputTooLong
+      → most_of_stream < length left
   overrun _ (ends_done bytes out given few session written) t e = absurd (cc)
   overrun _ (ends_unread bytes out given few session written) t e = absurd (cc)
   overrun _ (ends_over bytes more out given full some session written) t e =
-      let size : length left ≡ length bytes + (length more + length left') = ap length (given t) ∙ length-append bytes (more ++ left') ∙ ap (λ n. length bytes + n) (length-append more left') in
+      let size : length left ≡ length bytes + (length more + length left') =
+      ap length (given t)
+      ∙ length-append bytes (more ++ left')
+      ∙ ap (λ n. length bytes + n) (length-append more left') in
       let far = some_length more some in
       omega (arith, size, full, far)
   overrun _ (ends_stopped stop bytes out given front written) t e = absurd (not_over stop e)
 
   pub in_order : (result : Ending) → Ends result → IsTrue gives → GivesInOrder left left'
-  in_order _ (ends_done bytes out given few session written) t = record { given = bytes; split = (given t).0 ∙ sym (append-nil bytes) ∙ ap (λ l. bytes ++ l) (sym (given t).1) }
-  in_order _ (ends_unread bytes out given few session written) t = record { given = bytes; split = given t }
-  in_order _ (ends_over bytes more out given full some session written) t = record { given = bytes ++ more; split = given t ∙ sym (append_assoc bytes more left') }
-  in_order _ (ends_stopped stop bytes out given front written) t = record { given = bytes; split = given t }
+  in_order _ (ends_done bytes out given few session written) t =
+      record { given = bytes; split = (given t).0 ∙ sym (append-nil bytes) ∙ ap (λ l. bytes ++ l) (sym (given t).1) }
+  in_order _ (ends_unread bytes out given few session written) t =
+      record { given = bytes; split = given t }
+  in_order _ (ends_over bytes more out given full some session written) t =
+      record { given = bytes ++ more; split = given t ∙ sym (append_assoc bytes more left') }
+  in_order _ (ends_stopped stop bytes out given front written) t =
+      record { given = bytes; split = given t }
 
-  pub done : (result : Ending) → Ends result → IsTrue gives → IsTrue takes → result ≡ Done → Continues old new (λ before after. IsServed (answering_of old) before left left' taken taken' after)
+  pub done :
+      (result : Ending) → Ends result → IsTrue gives → IsTrue takes → result ≡ Done
+      → Continues old new
+      (λ before after. IsServed (answering_of old) before left left' taken taken' after)
   done _ (ends_done bytes out given few session written) t u e = record {
     rules = session.rules;
     kind = session.kind;
@@ -69,7 +84,10 @@ module _ (gives takes : Bool) (old : SessionState) (left taken : List ℕ) (new 
   done _ (ends_over bytes more out given full some session written) t u e = absurd (cc)
   done _ (ends_stopped stop bytes out given front written) t u e = absurd (not_done stop e)
 
-  pub read_fault : (result : Ending) → Ends result → IsTrue gives → IsTrue takes → result ≡ ReadFault → Continues old new (λ before after. IsCutOff (answering_of old) before left left' taken taken' after)
+  pub read_fault :
+      (result : Ending) → Ends result → IsTrue gives → IsTrue takes → result ≡ ReadFault
+      → Continues old new
+      (λ before after. IsCutOff (answering_of old) before left left' taken taken' after)
   read_fault _ (ends_done bytes out given few session written) t u e = absurd (cc)
   read_fault _ (ends_unread bytes out given few session written) t u e = record {
     rules = session.rules;
@@ -81,7 +99,10 @@ module _ (gives takes : Bool) (old : SessionState) (left taken : List ℕ) (new 
   read_fault _ (ends_over bytes more out given full some session written) t u e = absurd (cc)
   read_fault _ (ends_stopped stop bytes out given front written) t u e = absurd (not_unread stop e)
 
-  pub input_too_long : (result : Ending) → Ends result → IsTrue gives → IsTrue takes → result ≡ InputTooLong → Continues old new (λ before after. IsOverrun (answering_of old) before left taken taken' after)
+  pub input_too_long :
+      (result : Ending) → Ends result → IsTrue gives → IsTrue takes → result ≡ InputTooLong
+      → Continues old new
+      (λ before after. IsOverrun (answering_of old) before left taken taken' after)
   input_too_long _ (ends_done bytes out given few session written) t u e = absurd (cc)
   input_too_long _ (ends_unread bytes out given few session written) t u e = absurd (cc)
   input_too_long _ (ends_over bytes more out given full some session written) t u e = record {
@@ -94,13 +115,17 @@ module _ (gives takes : Bool) (old : SessionState) (left taken : List ℕ) (new 
     front_empty : (xs ys : List ℕ) → xs ++ ys ≡ [] → xs ≡ []
     front_empty [] ys f = refl
     front_empty (x ∷ xs) ys f = absurd (cc)
-  input_too_long _ (ends_stopped stop bytes out given front written) t u e = absurd (not_over stop e)
+  input_too_long _ (ends_stopped stop bytes out given front written) t u e =
+      absurd (not_over stop e)
 
   -- all of some bytes was written
   all_sent : (out : List ℕ) → taken' ≡ taken ++ out → AppendsPrefix taken taken' out
-  all_sent out e = record { rest = []; sent = record { sent = out; split = sym (append-nil out); appended = e } }
+  all_sent out e =
+      record { rest = []; sent = record { sent = out; split = sym (append-nil out); appended = e } }
 
-  pub begun : (result : Ending) → Ends result → IsTrue gives → IsTrue takes → (before : History) → StandsForWalks old before → IsBegun (answering_of old) before left taken taken'
+  pub begun :
+      (result : Ending) → Ends result → IsTrue gives → IsTrue takes → (before : History)
+      → StandsForWalks old before → IsBegun (answering_of old) before left taken taken'
   begun _ (ends_done bytes out given few session written) t u before here =
       let it = session.stands before here in
       let same : bytes ≡ left = sym (given t).0 in
@@ -111,4 +136,5 @@ module _ (gives takes : Bool) (old : SessionState) (left taken : List ℕ) (new 
   begun _ (ends_over bytes more out given full some session written) t u before here =
       let it = session.stands before here in
       record { out = out; output = of_lines bytes (more ++ left') out it.0 (given t) (omega (arith, full)) it.1; written = all_sent out (written u) }
-  begun _ (ends_stopped stop bytes out given front written) t u before here = record { out = out; output = front t before here; written = written u }
+  begun _ (ends_stopped stop bytes out given front written) t u before here =
+      record { out = out; output = front t before here; written = written u }

@@ -3,7 +3,7 @@ use Rattle.std.proofs.Common.{◌≡◌, ◌≢◌, ℕ, ◌≤◌, List, [], �
 use Rattle.std.specs.List.{All}
 use Rattle.std.proofs.lemmas.List.{append_assoc, append-nil, length-append}
 use Rattle.reply_model.specs.declared.Command.{Command}
-use Rattle.reply_model.specs.declared.Command.TheVariants.{New, Go, At, Same}
+use Rattle.reply_model.specs.declared.Command.TheVariants.{New, Go, At, Same, Level, Dist, Path}
 use Rattle.reply_model.specs.declared.Reply.{Reply}
 use Rattle.reply_model.specs.Histories.{History}
 use Rattle.command_text.specs.CommandLines.{spaced, IsSpelling}
@@ -25,6 +25,9 @@ nothing_spelt (New w) s = some_words 110 (codes "ew") s.words s.text
 nothing_spelt (Go w walk) s = some_words 103 (codes "o") s.words s.text
 nothing_spelt (At w) s = some_words 97 (codes "t") s.words s.text
 nothing_spelt (Same w v) s = some_words 115 (codes "ame") s.words s.text
+nothing_spelt (Level w) s = some_words 108 (codes "evel") s.words s.text
+nothing_spelt (Dist w v) s = some_words 100 (codes "ist") s.words s.text
+nothing_spelt (Path w v) s = some_words 112 (codes "ath") s.words s.text
 
 -- bytes with a front and a longer one
 longer_front : (short long rest more : List ℕ) → short ++ rest ≡ long ++ more → length short ≤ length long → (middle : List ℕ) × (long ≡ short ++ middle) × (rest ≡ middle ++ more)

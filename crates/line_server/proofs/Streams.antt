@@ -7,7 +7,7 @@ use Rattle.reply_model.specs.declared.Reply.{Reply}
 use Rattle.reply_laws.proofs.Together.{replies_agree, one_reply_over_walks, interleavings_over_walks}
 use Rattle.command_text.specs.Replies.{reply_text}
 use Rattle.command_text.specs.Laws.{LinesSpellOne, LinesAreDecided}
-use Rattle.line_server.specs.Answering.{IsTextOf, over_walks, over_tree}
+use Rattle.line_server.specs.Answering.{IsReplyText, over_walks, over_tree}
 use Rattle.line_server.specs.Laws.{OutputsAreOne, FrontsBeginOutputs, FrontsBeginWhatIsWithin, OutputsLeadToDue, InterleavingsHaveOneAnswer, OutputsAgree}
 use Rattle.line_server.proofs.SameOutput.{output_again}
 use Rattle.line_server.proofs.SomeOutput.{some_output}
@@ -16,14 +16,18 @@ use Rattle.line_server.proofs.Due.{outputs_lead_to_due}
 use Rattle.line_server.proofs.Interleaving.{streams_interleave}
 
 -- a reply has one text
-one_text : (kinds : List TileKind) (a : TreeAutomaton) (k : ℕ) (x : Reply) (bytes others : List ℕ) → IsTextOf kinds a k x bytes → IsTextOf kinds a k x others → bytes ≡ others
+one_text :
+    (kinds : List TileKind) (a : TreeAutomaton) (k : ℕ) (x : Reply) (bytes others : List ℕ)
+    → IsReplyText kinds a k x bytes → IsReplyText kinds a k x others → bytes ≡ others
 one_text kinds a k x bytes others said also = said ∙ sym also
 
 pub outputs_agree : OfEachTree OutputsAgree
 outputs_agree kinds a k valid ok known before bytes out after =
     let agree = replies_agree kinds a k valid ok known in (
-      output_again (over_walks kinds a k) (over_tree kinds a k) (λ h c x. (agree h c x).1) (λ x t said. said) before bytes out after,
-      output_again (over_tree kinds a k) (over_walks kinds a k) (λ h c x. (agree h c x).0) (λ x t said. said) before bytes out after,
+      output_again (over_walks kinds a k) (over_tree kinds a k) (λ h c x. (agree h c x).1)
+          (λ x t said. said) before bytes out after,
+      output_again (over_tree kinds a k) (over_walks kinds a k) (λ h c x. (agree h c x).0)
+          (λ x t said. said) before bytes out after,
     )
 
 module _ (spelling : LinesSpellOne) where
@@ -37,15 +41,19 @@ module _ (spelling : LinesSpellOne) where
 
   pub fronts_begin_outputs : OfEachTree FrontsBeginOutputs
   fronts_begin_outputs kinds a k valid ok known =
-      fronts_begin (over_walks kinds a k) spelling (one_reply_over_walks kinds a k valid ok known).one (one_text kinds a k)
+      fronts_begin (over_walks kinds a k) spelling
+      (one_reply_over_walks kinds a k valid ok known).one (one_text kinds a k)
 
   pub fronts_begin_what_is_within : OfEachTree FrontsBeginWhatIsWithin
   fronts_begin_what_is_within kinds a k valid ok known =
-      fronts_begin_within (over_walks kinds a k) spelling (one_reply_over_walks kinds a k valid ok known).one (one_text kinds a k)
+      fronts_begin_within (over_walks kinds a k) spelling
+      (one_reply_over_walks kinds a k valid ok known).one (one_text kinds a k)
 
   pub interleavings_have_one_answer : OfEachTree InterleavingsHaveOneAnswer
   interleavings_have_one_answer kinds a k valid ok known =
-      streams_interleave (over_walks kinds a k) spelling (one_reply_over_walks kinds a k valid ok known).one (one_text kinds a k) (interleavings_over_walks kinds a k valid ok known)
+      streams_interleave (over_walks kinds a k) spelling
+      (one_reply_over_walks kinds a k valid ok known).one (one_text kinds a k)
+      (interleavings_over_walks kinds a k valid ok known)
 
 pub outputs_due : OfEachTree OutputsLeadToDue
 outputs_due kinds a k valid ok known = outputs_lead_to_due (over_walks kinds a k)

@@ -16,13 +16,13 @@ pub record Answering : Type 1 where
   pub HasText : Reply → List ℕ → Type 0
 
 -- the text of a reply in the tree of kind k: its line
-abbrev pub IsTextOf : List TileKind → TreeAutomaton → ℕ → Reply → List ℕ → Type 0
-IsTextOf kinds a k x text = text ≡ reply_text x
+abbrev pub IsReplyText : List TileKind → TreeAutomaton → ℕ → Reply → List ℕ → Type 0
+IsReplyText kinds a k x text = text ≡ reply_text x
 
 -- answers by what walks say
 abbrev pub over_walks : List TileKind → TreeAutomaton → ℕ → Answering
-over_walks kinds a k = record { IsDue = IsWalkReply kinds a k; HasText = IsTextOf kinds a k }
+over_walks kinds a k = record { IsDue = IsWalkReply kinds a k; HasText = IsReplyText kinds a k }
 
 -- answers by what the tree of the rules says
 abbrev pub over_tree : List TileKind → TreeAutomaton → ℕ → Answering
-over_tree kinds a k = record { IsDue = IsTreeReply kinds a k; HasText = IsTextOf kinds a k }
+over_tree kinds a k = record { IsDue = IsTreeReply kinds a k; HasText = IsReplyText kinds a k }

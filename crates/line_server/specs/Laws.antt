@@ -74,8 +74,8 @@ module _ (answering : Answering) where
       → AreDue answering.IsDue after
 
   -- Two streams may have the same lines that make and move walkers, in the same order, whatever
-  -- other lines come between. Then two lines that ask for the place of one walker, each behind as
-  -- many of these lines of its stream, have one answer.
+  -- other lines come between. Then two lines that ask where one walker is, each behind as many of
+  -- these lines of its stream, have one answer.
   abbrev pub StreamsInterleave : Type 0
   StreamsInterleave =
       (lines others : List (List ℕ)) (moves : List Command)

@@ -2,7 +2,7 @@
 use Rattle.std.specs.Prelude.{◌≡◌, ◌≢◌, ℕ, ◌<◌, ◌≤◌, List, [], ◌∷◌, ◌++◌, length, codes}
 use Rattle.reply_model.specs.declared.Command.{Command}
 use Rattle.reply_model.specs.declared.Reply.{Reply}
-use Rattle.command_text.specs.CommandLines.{IsSpelling, most_of_line}
+use Rattle.command_text.specs.CommandLines.{IsSpelling, SpellsNothing, most_of_line}
 use Rattle.command_text.specs.Replies.{line_feed}
 use Rattle.line_server.specs.Lines.{AreCut, text_of, most_of_stream}
 use Rattle.reply_model.specs.Histories.{History}
@@ -14,10 +14,6 @@ too_long_text = codes "too long" ++ line_feed
 
 abbrev pub bad_text : List ℕ
 bad_text = codes "bad" ++ line_feed
-
--- the line spells no command
-abbrev pub SpellsNothing : List ℕ → Type 0
-SpellsNothing text = (c : Command) → ¬ IsSpelling text c
 
 module _ (answering : Answering) where
   -- What a line with this text is answered with after a history, and the history behind it.

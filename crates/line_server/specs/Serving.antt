@@ -17,8 +17,8 @@ ending_of Write = WriteFault
 ending_of NoMemory = Memory
 
 -- The session went from one state to another while a stream, or its whole lines, had this output.
-abbrev pub AnswersStream : SessionState → SessionState → (bytes out : List ℕ) → Type 0
-AnswersStream old new bytes out =
+abbrev pub SessionAnswers : SessionState → SessionState → (bytes out : List ℕ) → Type 0
+SessionAnswers old new bytes out =
     Continues old new (λ before after. IsOutput (answering_of old) before bytes out after)
 
 abbrev pub AnswersWholeLines : SessionState → SessionState → (bytes out : List ℕ) → Type 0
@@ -39,7 +39,7 @@ module _ (gives takes : Bool) (old : SessionState) (left taken : List ℕ)
         (bytes out : List ℕ)
         → (IsTrue gives → (left ≡ bytes) × (left' ≡ []))
         → length bytes ≤ most_of_stream
-        → AnswersStream old new bytes out
+        → SessionAnswers old new bytes out
         → (IsTrue takes → taken' ≡ taken ++ out)
         → EndsAs Done
     ends_unread :

@@ -10,7 +10,8 @@ ghost use Rattle.line_server.specs.Laws.{OutputsLeadToDue, InterleavingsHaveOneA
 /// stream is over the limit, the output of the lines that end within the limit.
 /// The history to which an output leads is due.
 /// And two streams may have the same lines `new W` and `go W` in the same order, whatever comes
-/// between: then two lines `at W`, each behind as many of these lines, have the same answer.
+/// between: then two lines `at W`, or two lines `level W`, each behind as many of these lines, have
+/// the same answer.
 pub fn outputs()
     ensures one { OfEachTree OutputsAreOne }
     ensures begins { OfEachTree FrontsBeginOutputs }

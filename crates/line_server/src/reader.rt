@@ -72,12 +72,12 @@ impl Reader {
         ensures written { OnOk result (outbox.new.waiting.now.items ≡ []) }
         ensures answered { (line : List ℕ) → Keeps self.old line
             → OnOk result (HasRead O.tells session.old
-                (line ++ take fresh (drop self.old.kept self.old.buffer.items))
-                (O.taken outbox.old.sink.now) session.new self.new (O.taken outbox.new.sink.now)) }
+            (line ++ take fresh (drop self.old.kept self.old.buffer.items))
+            (O.taken outbox.old.sink.now) session.new self.new (O.taken outbox.new.sink.now)) }
         ensures stopped { (line : List ℕ) → Keeps self.old line
             → OnErr result (HasStopped O.tells session.old
-                (line ++ take fresh (drop self.old.kept self.old.buffer.items))
-                (O.taken outbox.old.sink.now) (O.taken outbox.new.sink.now)) }
+            (line ++ take fresh (drop self.old.kept self.old.buffer.items))
+            (O.taken outbox.old.sink.now) (O.taken outbox.new.sink.now)) }
         ensures later { O.faults outbox.old.sink.now ≤ O.faults outbox.new.sink.now }
         ensures cause { IsErrOf result Stop.Write
             → Rose (O.faults outbox.old.sink.now) (O.faults outbox.new.sink.now) }
@@ -122,10 +122,10 @@ impl Reader {
         ensures same_waiting { outbox.new.waiting.ghost_name ≡ outbox.old.waiting.ghost_name }
         ensures ended { (line : List ℕ) → Keeps self.now line
             → OnOk result (HasEnded O.tells session.old line (O.taken outbox.old.sink.now)
-                session.new (O.taken outbox.new.sink.now)) }
+            session.new (O.taken outbox.new.sink.now)) }
         ensures failed { (line : List ℕ) → Keeps self.now line
             → OnErr result (HasFailed O.tells session.old line line
-                (O.taken outbox.old.sink.now) [] (O.taken outbox.new.sink.now)) }
+            (O.taken outbox.old.sink.now) [] (O.taken outbox.new.sink.now)) }
         ensures later { O.faults outbox.old.sink.now ≤ O.faults outbox.new.sink.now }
         ensures cause { IsErrOf result Stop.Write
             → Rose (O.faults outbox.old.sink.now) (O.faults outbox.new.sink.now) }
@@ -154,10 +154,10 @@ fn answer_lines<O: Sink>(
     ensures written { OnOk result (outbox.new.waiting.now.items ≡ []) }
     ensures answered { (dropped : List ℕ) → AreDropped lost dropped
         → IfOk result (λ end. HasComeTo O.tells session.old dropped bytes.now
-            (O.taken outbox.old.sink.now) session.new end.0 end.1 (O.taken outbox.new.sink.now)) }
+        (O.taken outbox.old.sink.now) session.new end.0 end.1 (O.taken outbox.new.sink.now)) }
     ensures stopped { (dropped : List ℕ) → AreDropped lost dropped
         → OnErr result (HasStopped O.tells session.old (dropped ++ bytes.now)
-            (O.taken outbox.old.sink.now) (O.taken outbox.new.sink.now)) }
+        (O.taken outbox.old.sink.now) (O.taken outbox.new.sink.now)) }
     ensures later { O.faults outbox.old.sink.now ≤ O.faults outbox.new.sink.now }
     ensures cause { IsErrOf result Stop.Write
         → Rose (O.faults outbox.old.sink.now) (O.faults outbox.new.sink.now) }
@@ -188,13 +188,13 @@ fn answer_end<O: Sink>(
     ensures replied { (dropped whole : List ℕ) → AreDropped lost dropped
         → IsTextBehind lost text.now whole
         → OnOk result (HasReplied O.tells session.old (dropped ++ line.now) whole
-            (O.taken outbox.old.sink.now) outbox.old.waiting.now.items session.new
-            (O.taken outbox.new.sink.now) outbox.new.waiting.now.items) }
+        (O.taken outbox.old.sink.now) outbox.old.waiting.now.items session.new
+        (O.taken outbox.new.sink.now) outbox.new.waiting.now.items) }
     ensures failed { (dropped whole : List ℕ) → AreDropped lost dropped
         → IsTextBehind lost text.now whole
         → OnErr result (HasFailed O.tells session.old (dropped ++ line.now) whole
-            (O.taken outbox.old.sink.now) outbox.old.waiting.now.items
-            (O.taken outbox.new.sink.now)) }
+        (O.taken outbox.old.sink.now) outbox.old.waiting.now.items
+        (O.taken outbox.new.sink.now)) }
     ensures later { O.faults outbox.old.sink.now ≤ O.faults outbox.new.sink.now }
     ensures cause { IsErrOf result Stop.Write
         → Rose (O.faults outbox.old.sink.now) (O.faults outbox.new.sink.now) }

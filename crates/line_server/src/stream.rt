@@ -34,7 +34,7 @@ pub enum Ending {
 
 /// Answers the lines of a stream, from its source to its sink, until the stream ends or something
 /// fails. The answers to all lines that have ended are written before more is read, so that whoever
-/// waits for an answer at the other end gets it.
+/// waits for an answer at the other end gets it; this last is tested, and no clause says it.
 ///
 /// A line ends at a line feed, and a carriage return in front of it belongs to the line's end. What
 /// stands behind the last line feed is a line too. A line of no bytes has no answer, one of over
@@ -49,19 +49,19 @@ pub fn serve<I: Source, O: Sink>(
     // The session stands then for a longer one.
     ensures done { IsTrue I.tells → IsTrue O.tells → result ≡ Ending.Done
         → Continues session.old session.new (λ before after. IsServed (answering_of session.old)
-            before (I.left input.old) (I.left input.new)
-            (O.taken out.old) (O.taken out.new) after) }
+        before (I.left input.old) (I.left input.new)
+        (O.taken out.old) (O.taken out.new) after) }
     ensures read_fault { IsTrue I.tells → IsTrue O.tells → result ≡ Ending.ReadFault
         → Continues session.old session.new (λ before after. IsCutOff (answering_of session.old)
-            before (I.left input.old) (I.left input.new)
-            (O.taken out.old) (O.taken out.new) after) }
+        before (I.left input.old) (I.left input.new)
+        (O.taken out.old) (O.taken out.new) after) }
     ensures input_too_long { IsTrue I.tells → IsTrue O.tells → result ≡ Ending.InputTooLong
         → Continues session.old session.new (λ before after. IsOverrun (answering_of session.old)
-            before (I.left input.old) (O.taken out.old) (O.taken out.new) after) }
+        before (I.left input.old) (O.taken out.old) (O.taken out.new) after) }
     ensures begun { IsTrue I.tells → IsTrue O.tells
         → (before : History) → StandsForWalks session.old before
         → IsBegun (answering_of session.old)
-            before (I.left input.old) (O.taken out.old) (O.taken out.new) }
+        before (I.left input.old) (O.taken out.old) (O.taken out.new) }
 
     // Why it ended so.
     // Of a read or a write that failed the count of faults tells, which never falls.

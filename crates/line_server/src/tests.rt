@@ -25,7 +25,7 @@ fn ends(alloc: Global, rules: &Rules, row: &Row, step: u32) -> Result<bool, Allo
     Ok(came == ending && out.taken() == written)
 }
 
-const WHOLE: [Row; 8] = [
+const WHOLE: [Row; 9] = [
     (b"", &[], Ending::Done, b""),
     (
         b"new 0\ngo 0 LXLX\nat 0\ngo 0 LXLX\nat 0\n",
@@ -38,6 +38,12 @@ const WHOLE: [Row; 8] = [
         &[],
         Ending::Done,
         b"ok\nok\nok\nok\nyes\nyes\ntaken\nno walker\nbad\n",
+    ),
+    (
+        b"new 0\nnew 1\ngo 0 LX\ngo 1 X\nsame 0 1\ndist 0 1\npath 0 1\ngo 1 RX\nat 1\ndist 1 0\nlevel 1\n",
+        &[],
+        Ending::Done,
+        b"ok\nok\nok\nok\nno\ndist 2\npath XLLLLX\nok\nat 0.4 0 0\ndist 1\nlevel 2\n",
     ),
     // A last line without a line feed counts.
     (b"new 0\nat 0", &[], Ending::Done, b"ok\nat - 0 0\n"),

@@ -1,17 +1,18 @@
 -- What stands between the commands that make and move walkers can be left out of a history.
 -- Walkers and walks stay, so histories with the same of these commands have the same walkers.
-use Rattle.std.proofs.Common.{◌≡◌, ℕ, ◌<◌, List, [], ◌∷◌, ◌++◌, length, refl, sym, ap, ◌∙◌, subst, append_assoc, append-nil, ⊎_elim}
+use Rattle.std.proofs.Common.{◌≡◌, ℕ, List, [], ◌∷◌, ◌++◌, refl, sym, ap, ◌∙◌, subst, append_assoc, append-nil, ⊎_elim}
 use Rattle.std.specs.Prelude.{Contains}
 use Rattle.std.proofs.lemmas.List.Elements.{Contains-append_left, Contains-append_right, Contains-append_cases}
 use Rattle.tile_model.specs.Tessellations.{TileKind}
 use Rattle.reply_model.specs.declared.Command.{Command}
-use Rattle.reply_model.specs.declared.Command.TheVariants.{New, Go, At, Same}
+use Rattle.reply_model.specs.declared.Command.TheVariants.{New, Go, At, Same, Level, Dist, Path}
 use Rattle.reply_model.specs.declared.Reply.{Reply}
 use Rattle.reply_model.specs.declared.Reply.TheVariants.{Done}
 use Rattle.reply_model.specs.Histories.{History, AreDue, Exists, letters_for, walk_of}
 use Rattle.reply_model.specs.Readings.{Reading}
 use Rattle.reply_model.specs.Replies.{IsReply}
-use Rattle.reply_laws.specs.Laws.{as_move, moves, asks_at, InterleavingsAgree}
+use Rattle.reply_laws.specs.Laws.{as_move, moves, asks_at, asks_level, InterleavingsAgree}
+use Rattle.reply_laws.proofs.Alike.{EndsAreKnown}
 use Rattle.reply_laws.proofs.Events.{Event, only_itself}
 use Rattle.reply_laws.proofs.Definite.{IsDefinite, one_reply}
 use Rattle.reply_laws.proofs.Histories.{HaveSameWalks, none_due, due_push, due_alike}
@@ -22,6 +23,9 @@ kept (New w) x = (New w, x) ∷ []
 kept (Go w u) x = (Go w u, x) ∷ []
 kept (At w) x = []
 kept (Same w v) x = []
+kept (Level w) x = []
+kept (Dist w v) x = []
+kept (Path w v) x = []
 
 abbrev pruned : History → History
 pruned [] = []
@@ -46,6 +50,9 @@ walk_kept (New v) x h g w e = e
 walk_kept (Go v u) x h g w e = ap (λ l. letters_for w (Go v u) x ++ l) e
 walk_kept (At v) x h g w e = e
 walk_kept (Same v i) x h g w e = e
+walk_kept (Level v) x h g w e = e
+walk_kept (Dist v i) x h g w e = e
+walk_kept (Path v i) x h g w e = e
 
 walk_pruned : (h : History) (w : ℕ) → walk_of (pruned h) w ≡ walk_of h w
 walk_pruned [] w = refl
@@ -77,12 +84,24 @@ kept_holds (New v) x h g w s = follow (New v, x) (New w, Done) h g s
 kept_holds (Go v u) x h g w s = follow (Go v u, x) (New w, Done) h g s
 kept_holds (At v) x h g w s = behind (At v, x) (New w, Done) h g s
 kept_holds (Same v i) x h g w s = behind (Same v i, x) (New w, Done) h g s
+kept_holds (Level v) x h g w s = behind (Level v, x) (New w, Done) h g s
+kept_holds (Dist v i) x h g w s = behind (Dist v i, x) (New w, Done) h g s
+kept_holds (Path v i) x h g w s = behind (Path v i, x) (New w, Done) h g s
 
 not_new_at : (v w : ℕ) → At v ≡ New w → ⊥
 not_new_at v w e = absurd (cc)
 
 not_new_same : (v i w : ℕ) → Same v i ≡ New w → ⊥
 not_new_same v i w e = absurd (cc)
+
+not_new_level : (v w : ℕ) → Level v ≡ New w → ⊥
+not_new_level v w e = absurd (cc)
+
+not_new_dist : (v i w : ℕ) → Dist v i ≡ New w → ⊥
+not_new_dist v i w e = absurd (cc)
+
+not_new_path : (v i w : ℕ) → Path v i ≡ New w → ⊥
+not_new_path v i w e = absurd (cc)
 
 holds_kept :
     (c : Command) (x : Reply) (h g : History) (w : ℕ) → (Exists h w → Exists g w) →
@@ -93,6 +112,12 @@ holds_kept (At v) x h g w s =
     left_out (At v, x) (New w, Done) h g (λ e. not_new_at v w (ap (λ (e : Event). e.0) e)) s
 holds_kept (Same v i) x h g w s =
     left_out (Same v i, x) (New w, Done) h g (λ e. not_new_same v i w (ap (λ (e : Event). e.0) e)) s
+holds_kept (Level v) x h g w s =
+    left_out (Level v, x) (New w, Done) h g (λ e. not_new_level v w (ap (λ (e : Event). e.0) e)) s
+holds_kept (Dist v i) x h g w s =
+    left_out (Dist v i, x) (New w, Done) h g (λ e. not_new_dist v i w (ap (λ (e : Event). e.0) e)) s
+holds_kept (Path v i) x h g w s =
+    left_out (Path v i, x) (New w, Done) h g (λ e. not_new_path v i w (ap (λ (e : Event). e.0) e)) s
 
 pruned_holds : (h : History) (w : ℕ) → Exists (pruned h) w → Exists h w
 pruned_holds [] w x = x
@@ -115,6 +140,9 @@ kept_command (New w) x h l e = ap (λ l. New w ∷ l) e
 kept_command (Go w u) x h l e = ap (λ l. Go w u ∷ l) e
 kept_command (At w) x h l e = e
 kept_command (Same w v) x h l e = e
+kept_command (Level w) x h l e = e
+kept_command (Dist w v) x h l e = e
+kept_command (Path w v) x h l e = e
 
 pruned_commands : (h : History) → commands (pruned h) ≡ moves h
 pruned_commands [] = refl
@@ -141,6 +169,9 @@ module _ (kinds : List TileKind) (k : ℕ) (r : Reading) where
   due_kept (Go w u) x h g due d e = subst (AreDue Due) (sym e) (due_push Due g (Go w u) x due d)
   due_kept (At w) x h g due d e = subst (AreDue Due) (sym (e ∙ append-nil g)) due
   due_kept (Same w v) x h g due d e = subst (AreDue Due) (sym (e ∙ append-nil g)) due
+  due_kept (Level w) x h g due d e = subst (AreDue Due) (sym (e ∙ append-nil g)) due
+  due_kept (Dist w v) x h g due d e = subst (AreDue Due) (sym (e ∙ append-nil g)) due
+  due_kept (Path w v) x h g due d e = subst (AreDue Due) (sym (e ∙ append-nil g)) due
 
   pruned_due :
       (before rest : History) → AreDue Due (before ++ rest) → AreDue Due (pruned before) →
@@ -162,7 +193,7 @@ module _ (kinds : List TileKind) (k : ℕ) (r : Reading) where
       subst (AreDue Due) same all
 
 module _
-    (kinds : List TileKind) (k : ℕ) (known : k < length kinds) (r : Reading)
+    (kinds : List TileKind) (k : ℕ) (ends : EndsAreKnown kinds k) (r : Reading)
     (definite : IsDefinite kinds r)
   where
     -- histories of the same commands are the same
@@ -175,7 +206,7 @@ module _
     same_events before (d ∷ h) (f ∷ g) dh dg e =
         let command : d.0 ≡ f.0 = ap (first_command d.0) e in
         let reply : d.1 ≡ f.1 =
-        one_reply kinds k known r definite before (dh before h d.0 d.1 refl)
+        one_reply kinds k ends r definite before (dh before h d.0 d.1 refl)
         (subst (λ c. IsReply kinds k r before c f.1) (sym command)
         (dg before g f.0 f.1 refl)) in
         let event : d ≡ f = ap (λ c. (c, d.1)) command ∙ ap (λ x. (f.0, x)) reply in
@@ -205,3 +236,4 @@ module _
 
     pub interleavings_agree : InterleavingsAgree (IsReply kinds k r)
     interleavings_agree h g dh dg e c x (asks_at w) d = interleaved h g dh dg e d
+    interleavings_agree h g dh dg e c x (asks_level w) d = interleaved h g dh dg e d

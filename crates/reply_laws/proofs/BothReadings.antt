@@ -17,9 +17,10 @@ use Rattle.tree_laws.proofs.Together.{walks_one_place, names_tell}
 use Rattle.tree_laws.proofs.Levels.{start_type, distance}
 use Rattle.tree_laws.proofs.Walking.{leads_same}
 use Rattle.reply_model.specs.WalkReadings.{IsThePlace, walk_reading}
-use Rattle.reply_model.specs.TreeReadings.{LeadsTo, LeadToOneName, LeadsApart, end_type, way_between, tree_reading}
+use Rattle.reply_model.specs.TreeReadings.{LeadsTo, LeadToOneName, LeadsApart, tree_reading}
+use Rattle.reply_model.specs.Ways.{end_type, way_between}
 use Rattle.reply_laws.specs.Laws.{ReadingsAgree, RepliesAgree}
-use Rattle.reply_laws.proofs.Alike.{the_other_way, read_again}
+use Rattle.reply_laws.proofs.Alike.{EndsAreKnown, the_other_way, read_again}
 use Rattle.reply_laws.proofs.Definite.{IsSettled, settled_alike, IsDefinite, definite_alike}
 
 module _
@@ -60,16 +61,16 @@ module _
             }),
       )
 
-      end_known : (u : List Letter) → (end_type kinds a k u).0 < length kinds
+      pub end_known : EndsAreKnown kinds k
       end_known u =
-          let t : IsType kinds (end_type kinds a k u) = walk_type kinds valid (k, 0) u
+          let t : IsType kinds (end_type kinds k u) = walk_type kinds valid (k, 0) u
           (start_type kinds a valid ok k known) in t.0
 
       -- what lies between two walks has one place
       between :
           (u w : List Letter) →
-          HasOnePlace kinds a (end_type kinds a k u).0 (way_between kinds a k u w)
-      between u w = one (end_type kinds a k u).0 (end_known u) (way_between kinds a k u w)
+          HasOnePlace kinds a (end_type kinds k u).0 (way_between kinds k u w)
+      between u w = one (end_type kinds k u).0 (end_known u) (way_between kinds k u w)
 
       -- and the length of its name is the distance
       pub apart_led :
@@ -89,8 +90,8 @@ module _
 
       pub replies_agree : RepliesAgree kinds a k
       replies_agree h c x = (
-        (λ d. read_again kinds k known readings_agree h d),
-        (λ d. read_again kinds k known (the_other_way readings_agree) h d),
+        (λ d. read_again kinds k end_known readings_agree h d),
+        (λ d. read_again kinds k end_known (the_other_way readings_agree) h d),
       )
 
       -- whether two walks lead to one name

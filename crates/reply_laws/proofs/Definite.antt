@@ -6,17 +6,24 @@ use Rattle.std.proofs.lemmas.List.Elements.{Contains-append_left, Contains-appen
 use Rattle.tile_model.specs.declared.Letter.{Letter}
 use Rattle.tile_model.specs.Tessellations.{TileKind}
 use Rattle.tree_model.specs.Limits.{deepest}
+use Rattle.tree_model.specs.Names.{word}
 use Rattle.tree_model.specs.Positions.{Position}
 use Rattle.reply_model.specs.declared.Command.{Command}
-use Rattle.reply_model.specs.declared.Command.TheVariants.{New, Go, At, Same}
+use Rattle.reply_model.specs.declared.Command.TheVariants.{New, Go, At, Same, Level, Dist, Path}
 use Rattle.reply_model.specs.declared.Reply.{Reply}
 use Rattle.reply_model.specs.declared.Reply.TheVariants.{Done, At as AtPlace, Yes, No, NoWalker, Taken, Deep}
+use Rattle.reply_model.specs.declared.Reply.TheVariants.{Level as AtLevel, Dist as Apart, Path as Along}
 use Rattle.reply_model.specs.Histories.{History, Exists, walk_of}
 use Rattle.reply_model.specs.Readings.{Reading}
-use Rattle.reply_model.specs.Replies.{AreFar, PassesFar, IsReply, at_place_of}
+use Rattle.reply_model.specs.Ways.{end_type, way_between}
+use Rattle.reply_model.specs.Replies.{AreFar, PassesFar, TreePathPassesFar, IsReply}
+use Rattle.reply_model.specs.Replies.{at_place_of, along_name_of, HasPlaceFrom}
 use Rattle.reply_model.specs.Replies.{new_taken, new_made, go_nobody, go_deep, go_gone}
 use Rattle.reply_model.specs.Replies.{at_nobody, at_place, same_nobody, same_tile, other_tile}
+use Rattle.reply_model.specs.Replies.{level_nobody, level_told, dist_nobody, dist_deep, dist_told}
+use Rattle.reply_model.specs.Replies.{path_nobody, path_deep, path_told}
 use Rattle.reply_laws.specs.Laws.{HaveOneReply, SayTheSame}
+use Rattle.reply_laws.proofs.Alike.{EndsAreKnown}
 use Rattle.reply_laws.proofs.Events.{Event, only_itself}
 
 -- A fact holds or does not.
@@ -61,6 +68,9 @@ done_or_not : (x : Reply) → IsSettled (x ≡ Done)
 done_or_not Done = inl refl
 done_or_not (AtPlace n s i) = inr (λ e. absurd (cc))
 done_or_not Yes = inr (λ e. absurd (cc))
+done_or_not (AtLevel n) = inr (λ e. absurd (cc))
+done_or_not (Apart n) = inr (λ e. absurd (cc))
+done_or_not (Along u) = inr (λ e. absurd (cc))
 done_or_not No = inr (λ e. absurd (cc))
 done_or_not NoWalker = inr (λ e. absurd (cc))
 done_or_not Taken = inr (λ e. absurd (cc))
@@ -71,6 +81,9 @@ new_or_not w (New v) = settled_alike (λ e. ap New e) (λ e. ap number e) (cases
 new_or_not w (Go v u) = inr (λ e. absurd (cc))
 new_or_not w (At v) = inr (λ e. absurd (cc))
 new_or_not w (Same v i) = inr (λ e. absurd (cc))
+new_or_not w (Level v) = inr (λ e. absurd (cc))
+new_or_not w (Dist v i) = inr (λ e. absurd (cc))
+new_or_not w (Path v i) = inr (λ e. absurd (cc))
 
 made_or_not : (w : ℕ) (e : Event) → IsSettled (e ≡ (New w, Done))
 made_or_not w e = both (new_or_not w e.0) (done_or_not e.1)
@@ -116,7 +129,7 @@ later_letters [] = []
 later_letters (x ∷ u) = u
 
 module _
-    (kinds : List TileKind) (k : ℕ) (known : k < length kinds) (r : Reading)
+    (kinds : List TileKind) (k : ℕ) (ends : EndsAreKnown kinds k) (r : Reading)
     (d : IsDefinite kinds r)
   where
     -- whether a tile is too far, and whether a walk passes one
@@ -169,6 +182,14 @@ module _
             inl (record { prefix = x ∷ p.prefix; rest = p.rest; split = split; far = far })
         now (inr n) (inr m) = inr (λ p. ⊎_elim n m (later p.prefix p.rest p.split p.far))
 
+    tree_path_or_not : (u w : List Letter) → IsSettled (TreePathPassesFar r k u w)
+    tree_path_or_not u w =
+        let (p, h) = d.place_some k (ends []) w in
+        settled_alike (λ f. record { place = p; placed = h; passes = f })
+        (λ f. subst (λ (q : Position). PassesFar r u [] (word q.name))
+        (d.place_one k (ends []) w f.place p f.placed h) f.passes)
+        (passes_or_not u [] (word p.name))
+
     abbrev Due : History → Command → Reply → Type 0
     Due = IsReply kinds k r
 
@@ -182,7 +203,7 @@ module _
 
     at_some : (h : History) (w : ℕ) → IsSettled (Exists h w) → (x : Reply) × Due h (At w) x
     at_some h w (inl e) =
-        let (p, l) = d.place_some k known (walk_of h w) in
+        let (p, l) = d.place_some k (ends []) (walk_of h w) in
         (at_place_of kinds k r h w p, at_place w p e l)
     at_some h w (inr n) = (NoWalker, at_nobody w n)
 
@@ -193,6 +214,33 @@ module _
     same_some h w v (inl e) (inr n) = (No, other_tile w v e.0 e.1 n)
     same_some h w v (inr n) s = (NoWalker, same_nobody w v n)
 
+    level_some : (h : History) (w : ℕ) → IsSettled (Exists h w) → (x : Reply) × Due h (Level w) x
+    level_some h w (inl e) =
+        let (n, a) = d.apart_some [] (walk_of h w) in (AtLevel n, level_told w n e a)
+    level_some h w (inr n) = (NoWalker, level_nobody w n)
+
+    dist_some :
+        (h : History) (w v : ℕ) → (Exists h w × Exists h v) ⊎ ((Exists h w → ⊥) ⊎ (Exists h v → ⊥)) →
+        IsSettled (TreePathPassesFar r k (walk_of h w) (walk_of h v)) →
+        (x : Reply) × Due h (Dist w v) x
+    dist_some h w v (inl e) (inl f) = (Deep, dist_deep w v e.0 e.1 f)
+    dist_some h w v (inl e) (inr n) =
+        let (m, a) = d.apart_some (walk_of h w) (walk_of h v) in
+        (Apart m, dist_told w v m e.0 e.1 n a)
+    dist_some h w v (inr n) s = (NoWalker, dist_nobody w v n)
+
+    path_some :
+        (h : History) (w v : ℕ) → (Exists h w × Exists h v) ⊎ ((Exists h w → ⊥) ⊎ (Exists h v → ⊥)) →
+        IsSettled (TreePathPassesFar r k (walk_of h w) (walk_of h v)) →
+        (x : Reply) × Due h (Path w v) x
+    path_some h w v (inl e) (inl f) = (Deep, path_deep w v e.0 e.1 f)
+    path_some h w v (inl e) (inr n) =
+        let (p, l) =
+        d.place_some (end_type kinds k (walk_of h w)).0 (ends (walk_of h w))
+        (way_between kinds k (walk_of h w) (walk_of h v)) in
+        (along_name_of kinds k r h w p, path_told w v p e.0 e.1 n l)
+    path_some h w v (inr n) s = (NoWalker, path_nobody w v n)
+
     pub some_reply : (h : History) (c : Command) → (x : Reply) × Due h c x
     some_reply h (New w) =
         ⊎_elim (λ e. (Taken, new_taken w e)) (λ n. (Done, new_made w n)) (exists_or_not h w)
@@ -201,11 +249,26 @@ module _
     some_reply h (Same w v) =
         same_some h w v (both_or_not (exists_or_not h w) (exists_or_not h v))
         (d.together (walk_of h w) (walk_of h v))
+    some_reply h (Level w) = level_some h w (exists_or_not h w)
+    some_reply h (Dist w v) =
+        dist_some h w v (both_or_not (exists_or_not h w) (exists_or_not h v))
+        (tree_path_or_not (walk_of h w) (walk_of h v))
+    some_reply h (Path w v) =
+        path_some h w v (both_or_not (exists_or_not h w) (exists_or_not h v))
+        (tree_path_or_not (walk_of h w) (walk_of h v))
 
     one_place :
         (h : History) (w : ℕ) (p q : Position) → r.HasPlace k (walk_of h w) p →
         r.HasPlace k (walk_of h w) q → at_place_of kinds k r h w p ≡ at_place_of kinds k r h w q
-    one_place h w p q l m = ap (at_place_of kinds k r h w) (d.place_one k known (walk_of h w) p q l m)
+    one_place h w p q l m = ap (at_place_of kinds k r h w) (d.place_one k (ends []) (walk_of h w) p q l m)
+
+    one_way :
+        (h : History) (w v : ℕ) (p q : Position) → HasPlaceFrom kinds k r h w v p →
+        HasPlaceFrom kinds k r h w v q → along_name_of kinds k r h w p ≡ along_name_of kinds k r h w q
+    one_way h w v p q l m =
+        ap (along_name_of kinds k r h w)
+        (d.place_one (end_type kinds k (walk_of h w)).0 (ends (walk_of h w))
+        (way_between kinds k (walk_of h w) (walk_of h v)) p q l m)
 
     -- and no other one
     pub one_reply : (h : History) {c : Command} {x y : Reply} → Due h c x → Due h c y → x ≡ y
@@ -235,6 +298,30 @@ module _
     one_reply h (other_tile w v e f n) (same_nobody i j m) = absurd (neither e f m)
     one_reply h (other_tile w v e f n) (same_tile i j g m t) = absurd (n t)
     one_reply h (other_tile w v e f n) (other_tile i j g m s) = refl
+    one_reply h (level_nobody w n) (level_nobody v m) = refl
+    one_reply h (level_nobody w n) (level_told v m e a) = absurd (n e)
+    one_reply h (level_told w n e a) (level_nobody v m) = absurd (m e)
+    one_reply h (level_told w n e a) (level_told v m f b) =
+        ap AtLevel (d.apart_one [] (walk_of h w) n m a b)
+    one_reply h (dist_nobody w v n) (dist_nobody i j m) = refl
+    one_reply h (dist_nobody w v n) (dist_deep i j e f g) = absurd (neither e f n)
+    one_reply h (dist_nobody w v n) (dist_told i j m e f g a) = absurd (neither e f n)
+    one_reply h (dist_deep w v e f g) (dist_nobody i j n) = absurd (neither e f n)
+    one_reply h (dist_deep w v e f g) (dist_deep i j l m s) = refl
+    one_reply h (dist_deep w v e f g) (dist_told i j m l s n a) = absurd (n g)
+    one_reply h (dist_told w v m e f n a) (dist_nobody i j l) = absurd (neither e f l)
+    one_reply h (dist_told w v m e f n a) (dist_deep i j l s g) = absurd (n g)
+    one_reply h (dist_told w v m e f n a) (dist_told i j l s t g b) =
+        ap Apart (d.apart_one (walk_of h w) (walk_of h v) m l a b)
+    one_reply h (path_nobody w v n) (path_nobody i j m) = refl
+    one_reply h (path_nobody w v n) (path_deep i j e f g) = absurd (neither e f n)
+    one_reply h (path_nobody w v n) (path_told i j q e f g l) = absurd (neither e f n)
+    one_reply h (path_deep w v e f g) (path_nobody i j n) = absurd (neither e f n)
+    one_reply h (path_deep w v e f g) (path_deep i j l m s) = refl
+    one_reply h (path_deep w v e f g) (path_told i j q l s n a) = absurd (n g)
+    one_reply h (path_told w v p e f n l) (path_nobody i j m) = absurd (neither e f m)
+    one_reply h (path_told w v p e f n l) (path_deep i j m s g) = absurd (n g)
+    one_reply h (path_told w v p e f n l) (path_told i j q s t g m) = one_way h w v p q l m
 
     pub have_one_reply : HaveOneReply (IsReply kinds k r)
     have_one_reply = record { some = some_reply; one = λ h c x y a b. one_reply h a b }

@@ -7,14 +7,17 @@ use Rattle.tile_model.specs.Tessellations.{TileKind}
 use Rattle.tile_model.specs.Walks.{type_of}
 use Rattle.tree_model.specs.Positions.{Position}
 use Rattle.reply_model.specs.declared.Command.{Command}
-use Rattle.reply_model.specs.declared.Command.TheVariants.{New, Go, At, Same}
+use Rattle.reply_model.specs.declared.Command.TheVariants.{New, Go, At, Same, Level, Dist, Path}
 use Rattle.reply_model.specs.declared.Reply.{Reply}
-use Rattle.reply_model.specs.declared.Reply.TheVariants.{At as AtPlace}
+use Rattle.reply_model.specs.declared.Reply.TheVariants.{At as AtPlace, Path as Along}
 use Rattle.reply_model.specs.Histories.{History, AreDue, Exists, letters_for, walk_of}
 use Rattle.reply_model.specs.Readings.{Reading}
-use Rattle.reply_model.specs.Replies.{PassesFar, IsReply}
+use Rattle.reply_model.specs.Ways.{end_type, way_between, way_along_name}
+use Rattle.reply_model.specs.Replies.{PassesFar, TreePathPassesFar, HasPlaceFrom, IsReply}
 use Rattle.reply_model.specs.Replies.{new_taken, new_made, go_nobody, go_deep, go_gone}
 use Rattle.reply_model.specs.Replies.{at_nobody, at_place, same_nobody, same_tile, other_tile}
+use Rattle.reply_model.specs.Replies.{level_nobody, level_told, dist_nobody, dist_deep, dist_told}
+use Rattle.reply_model.specs.Replies.{path_nobody, path_deep, path_told}
 use Rattle.reply_laws.proofs.Events.{Event, exists_front, push_cases}
 
 nobody : {A B C D : Type 0} → (B → A) → (D → C) → (A → ⊥) ⊎ (C → ⊥) → (B → ⊥) ⊎ (D → ⊥)
@@ -71,6 +74,33 @@ module _ (kinds : List TileKind) (k : ℕ) (r : Reading) where
       subst (λ u. Due g (At w) (AtPlace p.name p.side (type_of kinds (k, 0) u).0)) (sym same)
       (at_place w p e (subst (λ u. r.HasPlace k u p) same l))
 
+  apart_alike :
+      (h g : History) (w v n : ℕ) → walk_of h w ≡ walk_of g w → walk_of h v ≡ walk_of g v →
+      r.AreApart (walk_of h w) (walk_of h v) n → r.AreApart (walk_of g w) (walk_of g v) n
+  apart_alike h g w v n e f t =
+      subst (λ l. r.AreApart l (walk_of g v) n) e (subst (λ l. r.AreApart (walk_of h w) l n) f t)
+
+  tree_path_alike :
+      (h g : History) (w v : ℕ) → walk_of h w ≡ walk_of g w → walk_of h v ≡ walk_of g v →
+      TreePathPassesFar r k (walk_of h w) (walk_of h v) →
+      TreePathPassesFar r k (walk_of g w) (walk_of g v)
+  tree_path_alike h g w v e f t =
+      subst (λ l. TreePathPassesFar r k l (walk_of g v)) e
+      (subst (λ l. TreePathPassesFar r k (walk_of h w) l) f t)
+
+  way_alike :
+      (h g : History) (w v : ℕ) (p : Position) → HaveSameWalks h g → Exists h w → Exists h v →
+      (TreePathPassesFar r k (walk_of h w) (walk_of h v) → ⊥) → HasPlaceFrom kinds k r h w v p →
+      Due g (Path w v) (Along (way_along_name (end_type kinds k (walk_of h w)).1 p.name))
+  way_alike h g w v p s e d n l =
+      let first = subst (λ u. r.HasPlace (end_type kinds k (walk_of h w)).0
+      (way_between kinds k (walk_of h w) u) p) (s.walks v) l in
+      let both = subst (λ u. r.HasPlace (end_type kinds k u).0
+      (way_between kinds k u (walk_of g v)) p) (s.walks w) first in
+      subst (λ u. Due g (Path w v) (Along (way_along_name (end_type kinds k u).1 p.name)))
+      (sym (s.walks w)) (path_told w v p (s.there w e) (s.there v d)
+      (λ f. n (tree_path_alike g h w v (sym (s.walks w)) (sym (s.walks v)) f)) both)
+
   pub due_alike :
       (h g : History) → HaveSameWalks h g → {c : Command} {x : Reply} → Due h c x → Due g c x
   due_alike h g s (new_taken w e) = new_taken w (s.there w e)
@@ -87,6 +117,20 @@ module _ (kinds : List TileKind) (k : ℕ) (r : Reading) where
   due_alike h g s (other_tile w v e d n) =
       other_tile w v (s.there w e) (s.there v d)
       (λ t. n (together_alike g h w v (sym (s.walks w)) (sym (s.walks v)) t))
+  due_alike h g s (level_nobody w n) = level_nobody w (λ e. n (s.back w e))
+  due_alike h g s (level_told w n e a) =
+      level_told w n (s.there w e) (subst (λ l. r.AreApart [] l n) (s.walks w) a)
+  due_alike h g s (dist_nobody w v n) = dist_nobody w v (nobody (s.back w) (s.back v) n)
+  due_alike h g s (dist_deep w v e d f) =
+      dist_deep w v (s.there w e) (s.there v d) (tree_path_alike h g w v (s.walks w) (s.walks v) f)
+  due_alike h g s (dist_told w v n e d m a) =
+      dist_told w v n (s.there w e) (s.there v d)
+      (λ f. m (tree_path_alike g h w v (sym (s.walks w)) (sym (s.walks v)) f))
+      (apart_alike h g w v n (s.walks w) (s.walks v) a)
+  due_alike h g s (path_nobody w v n) = path_nobody w v (nobody (s.back w) (s.back v) n)
+  due_alike h g s (path_deep w v e d f) =
+      path_deep w v (s.there w e) (s.there v d) (tree_path_alike h g w v (s.walks w) (s.walks v) f)
+  due_alike h g s (path_told w v p e d m l) = way_alike h g w v p s e d m l
 
   -- a reply that is due adds no letters to the walk of a walker that does not exist
   go_letters :
@@ -104,6 +148,9 @@ module _ (kinds : List TileKind) (k : ℕ) (r : Reading) where
   no_letters h w n (New v) x d = refl
   no_letters h w n (At v) x d = refl
   no_letters h w n (Same v i) x d = refl
+  no_letters h w n (Level v) x d = refl
+  no_letters h w n (Dist v i) x d = refl
+  no_letters h w n (Path v i) x d = refl
 
   unborn_behind :
       (before rest : History) (w : ℕ) → AreDue Due (before ++ rest) →

@@ -5,5 +5,6 @@ pub mod Histories
 pub mod Between
 pub mod BothReadings
 pub mod Names
+pub mod Paths
 pub mod Depths
 pub mod Together

@@ -22,20 +22,20 @@ replies_agree kinds a k valid ok known = both.replies_agree kinds a valid ok k k
 
 pub one_reply_over_walks : OfEachTree (λ kinds a k. HaveOneReply (IsWalkReply kinds a k))
 one_reply_over_walks kinds a k valid ok known =
-    have_one_reply kinds k known (walk_reading kinds a k)
+    have_one_reply kinds k (both.end_known kinds a valid ok k known) (walk_reading kinds a k)
     (both.walks_definite kinds a valid ok k known)
 
 pub one_reply_over_tree : OfEachTree (λ kinds a k. HaveOneReply (IsTreeReply kinds a k))
 one_reply_over_tree kinds a k valid ok known =
-    have_one_reply kinds k known (tree_reading kinds a k)
+    have_one_reply kinds k (both.end_known kinds a valid ok k known) (tree_reading kinds a k)
     (both.tree_definite kinds a valid ok k known)
 
 pub interleavings_over_walks : OfEachTree (λ kinds a k. InterleavingsAgree (IsWalkReply kinds a k))
 interleavings_over_walks kinds a k valid ok known =
-    between.interleavings_agree kinds k known (walk_reading kinds a k)
+    between.interleavings_agree kinds k (both.end_known kinds a valid ok k known) (walk_reading kinds a k)
     (both.walks_definite kinds a valid ok k known)
 
 pub interleavings_over_tree : OfEachTree (λ kinds a k. InterleavingsAgree (IsTreeReply kinds a k))
 interleavings_over_tree kinds a k valid ok known =
-    between.interleavings_agree kinds k known (tree_reading kinds a k)
+    between.interleavings_agree kinds k (both.end_known kinds a valid ok k known) (tree_reading kinds a k)
     (both.tree_definite kinds a valid ok k known)

@@ -5,10 +5,11 @@ use Rattle.tile_model.specs.Tessellations.{TileKind}
 use Rattle.tile_model.specs.Relation.{AreRelated, AreAtSameTile}
 use Rattle.tree_model.specs.Automata.{TreeAutomaton}
 use Rattle.tree_model.specs.Positions.{Position}
+use Rattle.tree_laws.specs.Laws.{IsShortestWay}
 use Rattle.reply_model.specs.declared.Command.{Command}
-use Rattle.reply_model.specs.declared.Command.TheVariants.{New, Go, At}
+use Rattle.reply_model.specs.declared.Command.TheVariants.{New, Go, At, Level, Path}
 use Rattle.reply_model.specs.declared.Reply.{Reply}
-use Rattle.reply_model.specs.declared.Reply.TheVariants.{At as AtPlace}
+use Rattle.reply_model.specs.declared.Reply.TheVariants.{At as AtPlace, Path as Along}
 use Rattle.reply_model.specs.Histories.{History, AreDue, walk_of}
 use Rattle.reply_model.specs.Readings.{Reading}
 use Rattle.reply_model.specs.WalkReadings.{walk_reading, IsWalkReply}
@@ -31,9 +32,10 @@ abbrev pub moves : History → List Command
 moves [] = []
 moves (event ∷ history) = as_move event.0 ++ moves history
 
--- The command asks where a walker is.
+-- The command asks where one walker is: at which place, or at which distance from the root.
 pub data AsksPlace : Command → Type 0 where
   asks_at : (w : ℕ) → AsksPlace (At w)
+  asks_level : (w : ℕ) → AsksPlace (Level w)
 
 -- Two histories may have the same commands that make and move walkers, in the same order, whatever
 -- other commands come between. Then each reply that says where a walker is, and is due after one of
@@ -85,3 +87,11 @@ module _ (kinds : List TileKind) (a : TreeAutomaton) (k : ℕ) where
       → IsWalkReply kinds a k other (At v) (AtPlace name' spin' kind')
       → ((name ≡ name') × (spin ≡ spin'))
       ↔ AreRelated kinds (k, 0) (walk_of history w) (walk_of other v)
+
+  -- The walk in a reply to `path` leads from the tile of the first walker to that of the second,
+  -- with the least number of crossings.
+  abbrev pub PathsAreShortest : Type 0
+  PathsAreShortest =
+      (history : History) (w v : ℕ) (way : List Letter)
+      → IsWalkReply kinds a k history (Path w v) (Along way)
+      → IsShortestWay kinds (k, 0) (walk_of history w) (walk_of history v) way

@@ -6,7 +6,7 @@ ghost use Rattle.reply_model.specs.WalkReadings.{IsWalkReply};
 ghost use Rattle.reply_model.specs.TreeReadings.{IsTreeReply};
 ghost use Rattle.reply_laws.specs.Laws.{HaveOneReply, InterleavingsAgree};
 ghost use Rattle.reply_laws.specs.Laws.{ReadingsAgree, RepliesAgree};
-ghost use Rattle.reply_laws.specs.Laws.{AnswersTellTiles, AnswersTellRelated};
+ghost use Rattle.reply_laws.specs.Laws.{AnswersTellTiles, AnswersTellRelated, PathsAreShortest};
 
 /// What names mean, of the replies themselves.
 /// Two replies to `at`, at whichever moments, have one name exactly where the walks of the two walkers are at the same
@@ -37,4 +37,10 @@ pub fn replies()
 pub fn interleavings()
     ensures over_walks { OfEachTree (λ kinds a k. InterleavingsAgree (IsWalkReply kinds a k)) }
     ensures over_tree { OfEachTree (λ kinds a k. InterleavingsAgree (IsTreeReply kinds a k)) }
+{}
+
+/// The walk in a reply to `path` leads from the tile of the first walker to that of the second, and no walk between
+/// them has fewer crossings.
+pub fn paths()
+    ensures shortest { OfEachTree PathsAreShortest }
 {}

@@ -1,5 +1,6 @@
 pub mod Histories
 pub mod Readings
+pub mod Ways
 pub mod Replies
 pub mod WalkReadings
 pub mod TreeReadings

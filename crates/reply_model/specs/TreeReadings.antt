@@ -1,16 +1,15 @@
 -- The replies, read over the tree: the place of a walk is the position that it leads to, letter by
 -- letter, and names tell which walks are together and how far apart they are.
-use Rattle.std.specs.Prelude.{◌≡◌, ℕ, List, ◌++◌, length, replicate}
+use Rattle.std.specs.Prelude.{◌≡◌, ℕ, List, length}
 use Rattle.tile_model.specs.declared.Letter.{Letter}
-use Rattle.tile_model.specs.declared.Letter.TheVariants.{L}
 use Rattle.tile_model.specs.Tessellations.{TileKind}
-use Rattle.tile_model.specs.Walks.{type_of, inverse}
 use Rattle.tree_model.specs.Automata.{TreeAutomaton}
 use Rattle.tree_model.specs.Positions.{Position, root, Leads}
 use Rattle.reply_model.specs.declared.Command.{Command}
 use Rattle.reply_model.specs.declared.Reply.{Reply}
 use Rattle.reply_model.specs.Histories.{History}
 use Rattle.reply_model.specs.Readings.{Reading}
+use Rattle.reply_model.specs.Ways.{end_type, way_between}
 use Rattle.reply_model.specs.Replies.{IsReply}
 
 module _ (kinds : List TileKind) (a : TreeAutomaton) where
@@ -27,19 +26,11 @@ module _ (kinds : List TileKind) (a : TreeAutomaton) where
       pub second_led : LeadsTo k w second
       pub one_name : first.name ≡ second.name
 
-    -- the type of the side that the walk u faces at its end
-    abbrev pub end_type : List Letter → ℕ × ℕ
-    end_type u = type_of kinds (k, 0) u
-
-    -- The way from the tile of u to that of w, read from the root of a tree of the kind of the tile of u:
-    -- as many letters L as lead from side 0 to the side that u faces at its end, back along u, then w.
-    abbrev pub way_between : List Letter → List Letter → List Letter
-    way_between u w = replicate (end_type u).1 L ++ (inverse u ++ w)
-
-    -- In that tree this way leads to a name of n sides.
+    -- In the tree whose root is the tile of u, the way from there to the tile of w leads to a name of
+    -- n sides.
     pub record LeadsApart (u w : List Letter) (n : ℕ) : Type 0 where
       pub place : Position
-      pub led : LeadsTo (end_type u).0 (way_between u w) place
+      pub led : LeadsTo (end_type kinds k u).0 (way_between kinds k u w) place
       pub sides : length place.name ≡ n
 
     abbrev pub tree_reading : Reading

@@ -24,6 +24,12 @@ pub enum Command {
     At(u8),
     /// Do the two walkers stand on one tile?
     Same(u8, u8),
+    /// How many crossings is the walker away from the root?
+    Level(u8),
+    /// How many crossings is the second walker away from the first?
+    Dist(u8, u8),
+    /// Which walk leads from the first walker to the tile of the second with the fewest crossings?
+    Path(u8, u8),
 }
 
 /// The reply to a command.
@@ -37,10 +43,16 @@ pub enum Reply {
     Yes,
     /// They stand on two tiles.
     No,
+    /// The least number of crossings from the root to the tile of the walker.
+    Level(u32),
+    /// The least number of crossings from the tile of the first walker to that of the second.
+    Dist(u32),
+    /// A walk from the first walker to the tile of the second with the fewest crossings.
+    Path(Walk),
     /// There is no walker of a number that the command names.
     NoWalker,
     /// There is a walker of this number already.
     Taken,
-    /// The way leads to a tile that lies too deep.
+    /// The way leads to a tile that lies too deep, or too far from the walker from whom it is measured.
     Deep,
 }

@@ -1,4 +1,6 @@
 pub mod Steps
 pub mod Depth
+pub mod Telling
 pub mod Standing
+pub mod Comparing
 pub mod Going

@@ -12,25 +12,27 @@ use Rattle.structure_check.specs.Rules.{AreSound}
 use Rattle.turn_rules.specs.Spots.{TreeSpot, position, tile_state}
 use Rattle.tree_laws.proofs.Walking.{leads_append, leads_same}
 use Rattle.reply_model.specs.declared.Command.{Command}
-use Rattle.reply_model.specs.declared.Command.TheVariants.{New, Go, At, Same}
+use Rattle.reply_model.specs.declared.Command.TheVariants.{New, Go, At, Same, Level, Dist, Path}
 use Rattle.reply_model.specs.declared.Reply.{Reply}
 use Rattle.reply_model.specs.declared.Reply.TheVariants.{Done, At as AtPlace, Yes, No, NoWalker, Taken, Deep}
+use Rattle.reply_model.specs.declared.Reply.TheVariants.{Level as AtLevel, Dist as Apart, Path as Along}
 use Rattle.reply_model.specs.Histories.{History, most_walkers, Exists, letters_for, walk_of}
 use Rattle.reply_model.specs.Readings.{Reading}
 use Rattle.reply_model.specs.Replies.{new_taken, new_made, go_nobody, go_deep, go_gone, at_nobody, at_place, same_nobody, same_tile, other_tile}
+use Rattle.reply_model.specs.Replies.{level_nobody, dist_nobody, path_nobody}
 use Rattle.reply_model.specs.TreeReadings.{LeadsTo, LeadToOneName}
-use Rattle.reply_laws.specs.Laws.{SayTheSame, ReadingsAgree}
-use Rattle.reply_laws.proofs.Alike.{the_other_way, read_again}
+use Rattle.reply_laws.specs.Laws.{SayTheSame}
+use Rattle.reply_laws.proofs.Alike.{EndsAreKnown, the_other_way, read_again}
 use Rattle.reply_laws.proofs.Events.{Event, walk_push, walk_stays, exists_push, exists_made, exists_before}
 use Rattle.reply_laws.proofs.Histories.{unborn, due_push}
-use Rattle.reply_laws.proofs.Together.{readings_agree}
 use Rattle.tree_laws.proofs.Together.{walks_one_place, state_kinds}
 use Rattle.session_core.specs.Sessions.{SessionState, walker_at, IsWalker, IsSession, HasNumbers, Stands}
-use Rattle.session_core.specs.Sessions.{over_walks, over_tree, StandsForWalks, StandsFor, IsDueOverTree}
+use Rattle.session_core.specs.Sessions.{session_over_walks, session_over_tree, StandsForWalks, StandsFor, IsDueOverTree}
 use Rattle.session_core.specs.Answered.{HasAnswered}
 use Rattle.session_core.proofs.Steps as steps
 use Rattle.session_core.proofs.Steps.{Does, HasGone, with_walker}
 use Rattle.session_core.proofs.Depth.{goes_deep, deep_goes}
+use Rattle.session_core.proofs.Telling.{readings, ends, level_due, far_due, far_path_due, apart_due, along_due}
 
 -- the event makes no walker v
 abbrev MakesNot : Command → Reply → ℕ → Type 0
@@ -57,6 +59,15 @@ at_is_not_new w v e = absurd (cc)
 
 same_is_not_new : (w v i : ℕ) → Same w v ≡ New i → ⊥
 same_is_not_new w v i e = absurd (cc)
+
+level_is_not_new : (w v : ℕ) → Level w ≡ New v → ⊥
+level_is_not_new w v e = absurd (cc)
+
+dist_is_not_new : (w v i : ℕ) → Dist w v ≡ New i → ⊥
+dist_is_not_new w v i e = absurd (cc)
+
+path_is_not_new : (w v i : ℕ) → Path w v ≡ New i → ⊥
+path_is_not_new w v i e = absurd (cc)
 
 module _ (s : SessionState) (is : IsSession s) (h : History) (stands : StandsFor s h) where
   abbrev Led : List Letter → TreeSpot → Type 0
@@ -213,7 +224,7 @@ module _ (s : SessionState) (is : IsSession s) (h : History) (stands : StandsFor
       Led (walk_of (h ++ (New w, Done) ∷ []) w) q
   new_led w q e at =
       let none : walk_of h w ≡ [] =
-      unborn s.rules.kinds s.kind (over_tree s) h w stands.replies (nobody w e) in
+      unborn s.rules.kinds s.kind (session_over_tree s) h w stands.replies (nobody w e) in
       subst (λ l. Led l q) (sym (walk_stays h (New w) Done w refl ∙ none)) (sym at)
 
   -- the reply is due
@@ -233,6 +244,20 @@ module _ (s : SessionState) (is : IsSession s) (h : History) (stands : StandsFor
       same_tile w v (there w p e) (there v q f) (tiles w v p q e f n)
   does_due (steps.two_tiles w v p q e f n) =
       other_tile w v (there w p e) (there v q f) (λ t. n (names w v p q e f t))
+  does_due (steps.level_nobody w e) = level_nobody w (nobody w e)
+  does_due (steps.level_spot w p e) = level_due s is h stands w p e (there w p e)
+  does_due (steps.dist_nobody w v e) =
+      dist_nobody w v (⊎_elim (λ e. inl (nobody w e)) (λ e. inr (nobody v e)) e)
+  does_due (steps.dist_far w v p q e f d) =
+      far_due s is h stands w v p q e f (there w p e) (there v q f) d
+  does_due (steps.dist_spots w v n p q e f near d) =
+      apart_due s is h stands w v p q e f (there w p e) (there v q f) n near d
+  does_due (steps.path_nobody w v e) =
+      path_nobody w v (⊎_elim (λ e. inl (nobody w e)) (λ e. inr (nobody v e)) e)
+  does_due (steps.path_far w v p q e f d) =
+      far_path_due s is h stands w v p q e f (there w p e) (there v q f) d
+  does_due (steps.path_spots w v z p q e f near d) =
+      along_due s is h stands w v p q e f (there w p e) (there v q f) z near d
 
   -- and the session stands for what has come
   pub does_stand :
@@ -272,6 +297,30 @@ module _ (s : SessionState) (is : IsSession s) (h : History) (stands : StandsFor
   does_stand lt (steps.two_tiles w v p q e f n) =
       idle (Same w v) No (does_due (steps.two_tiles w v p q e f n)) (λ i. refl)
       (λ i f. same_is_not_new w v i (ap (λ (e : Event). e.0) f))
+  does_stand lt (steps.level_nobody w e) =
+      idle (Level w) NoWalker (does_due (steps.level_nobody w e)) (λ v. refl)
+      (λ v f. level_is_not_new w v (ap (λ (e : Event). e.0) f))
+  does_stand lt (steps.level_spot w p e) =
+      idle (Level w) (AtLevel (length p.name)) (does_due (steps.level_spot w p e)) (λ v. refl)
+      (λ v f. level_is_not_new w v (ap (λ (e : Event). e.0) f))
+  does_stand lt (steps.dist_nobody w v e) =
+      idle (Dist w v) NoWalker (does_due (steps.dist_nobody w v e)) (λ i. refl)
+      (λ i f. dist_is_not_new w v i (ap (λ (e : Event). e.0) f))
+  does_stand lt (steps.dist_far w v p q e f d) =
+      idle (Dist w v) Deep (does_due (steps.dist_far w v p q e f d)) (λ i. refl)
+      (λ i f. dist_is_not_new w v i (ap (λ (e : Event). e.0) f))
+  does_stand lt (steps.dist_spots w v n p q e f near d) =
+      idle (Dist w v) (Apart n) (does_due (steps.dist_spots w v n p q e f near d)) (λ i. refl)
+      (λ i f. dist_is_not_new w v i (ap (λ (e : Event). e.0) f))
+  does_stand lt (steps.path_nobody w v e) =
+      idle (Path w v) NoWalker (does_due (steps.path_nobody w v e)) (λ i. refl)
+      (λ i f. path_is_not_new w v i (ap (λ (e : Event). e.0) f))
+  does_stand lt (steps.path_far w v p q e f d) =
+      idle (Path w v) Deep (does_due (steps.path_far w v p q e f d)) (λ i. refl)
+      (λ i f. path_is_not_new w v i (ap (λ (e : Event). e.0) f))
+  does_stand lt (steps.path_spots w v z p q e f near d) =
+      idle (Path w v) (Along z) (does_due (steps.path_spots w v z p q e f near d)) (λ i. refl)
+      (λ i f. path_is_not_new w v i (ap (λ (e : Event). e.0) f))
 
 -- a session with another spot of walker w
 pub put_session :
@@ -311,43 +360,47 @@ does_keep (steps.at_spot w p e) = (refl, refl)
 does_keep (steps.same_nobody w v e) = (refl, refl)
 does_keep (steps.one_tile w v p q e f n) = (refl, refl)
 does_keep (steps.two_tiles w v p q e f n) = (refl, refl)
+does_keep (steps.level_nobody w e) = (refl, refl)
+does_keep (steps.level_spot w p e) = (refl, refl)
+does_keep (steps.dist_nobody w v e) = (refl, refl)
+does_keep (steps.dist_far w v p q e f d) = (refl, refl)
+does_keep (steps.dist_spots w v n p q e f near d) = (refl, refl)
+does_keep (steps.path_nobody w v e) = (refl, refl)
+does_keep (steps.path_far w v p q e f d) = (refl, refl)
+does_keep (steps.path_spots w v z p q e f near d) = (refl, refl)
 
 -- a session stands for the same histories in two readings that say the same
 stands_again :
-    (r t : Reading) (s : SessionState) → s.kind < length s.rules.kinds →
+    (r t : Reading) (s : SessionState) → EndsAreKnown s.rules.kinds s.kind →
     SayTheSame s.rules.kinds r t → (h : History) → Stands r s h → Stands t s h
 stands_again r t s known same h st = record {
   replies =
       λ before rest c x e. read_again s.rules.kinds s.kind known same before
       (st.replies before rest c x e);
   walkers = st.walkers;
-  spots = λ w p e. (same.places s.kind known (walk_of h w) (position p)).0 (st.spots w p e);
+  spots = λ w p e. (same.places s.kind (known []) (walk_of h w) (position p)).0 (st.spots w p e);
 }
-
-readings :
-    (s : SessionState) → AreSound s.rules → s.kind < length s.rules.kinds →
-    ReadingsAgree s.rules.kinds s.rules.automaton s.kind
-readings s sound known =
-    readings_agree s.rules.kinds s.rules.automaton s.kind sound.valid sound.accepted known
 
 pub for_walks :
     (s : SessionState) → AreSound s.rules → s.kind < length s.rules.kinds → (h : History) →
     StandsFor s h → StandsForWalks s h
 for_walks s sound known h st =
-    stands_again (over_tree s) (over_walks s) s known (readings s sound known) h st
+    stands_again (session_over_tree s) (session_over_walks s) s (ends s sound known) (readings s sound known) h st
 
 for_tree :
     (s : SessionState) → AreSound s.rules → s.kind < length s.rules.kinds → (h : History) →
     StandsForWalks s h → StandsFor s h
 for_tree s sound known h st =
-    stands_again (over_walks s) (over_tree s) s known (the_other_way (readings s sound known)) h st
+    stands_again (session_over_walks s) (session_over_tree s) s (ends s sound known)
+    (the_other_way (readings s sound known)) h st
 
 pub answered :
     (s : SessionState) (c : Command) (x : Reply) (t : SessionState) → IsSession s → HasNumbers c →
     Does s c x t → HasAnswered s c x t
 answered s c x t is lt d = record {
   due_over_walks =
-      λ h stands. read_again s.rules.kinds s.kind is.known (readings s is.sound is.known) h
+      λ h stands. read_again s.rules.kinds s.kind (ends s is.sound is.known)
+      (readings s is.sound is.known) h
       (does_due s is h (before h stands) d);
   stands_over_walks =
       λ h stands. for_walks t sound known (h ++ (c, x) ∷ [])

@@ -5,7 +5,7 @@ use Rattle.tree_model.specs.Limits.{deepest}
 use Rattle.structure_check.specs.Rules.{TreeRules, AreSound}
 use Rattle.turn_rules.specs.Spots.{TreeSpot, IsSpot, position, root_kind}
 use Rattle.reply_model.specs.declared.Command.{Command}
-use Rattle.reply_model.specs.declared.Command.TheVariants.{New, Go, At, Same}
+use Rattle.reply_model.specs.declared.Command.TheVariants.{New, Go, At, Same, Level, Dist, Path}
 use Rattle.reply_model.specs.declared.Reply.{Reply}
 use Rattle.reply_model.specs.Histories.{History, most_walkers, AreDue, Exists, walk_of}
 use Rattle.reply_model.specs.Readings.{Reading}
@@ -44,6 +44,9 @@ HasNumbers (New w) = w < most_walkers
 HasNumbers (Go w walk) = w < most_walkers
 HasNumbers (At w) = w < most_walkers
 HasNumbers (Same w v) = (w < most_walkers) × (v < most_walkers)
+HasNumbers (Level w) = w < most_walkers
+HasNumbers (Dist w v) = (w < most_walkers) × (v < most_walkers)
+HasNumbers (Path w v) = (w < most_walkers) × (v < most_walkers)
 
 -- By a reading of the words of a reply, a session stands for a history: the replies in it are due,
 -- there is a spot for exactly the walkers that exist after it, and the spot of each is the place of
@@ -57,22 +60,22 @@ pub record Stands (reading : Reading) (session : SessionState) (history : Histor
       → reading.HasPlace session.kind (walk_of history w) (position s)
 
 -- The two readings, for the tree of this session.
-abbrev pub over_walks : SessionState → Reading
-over_walks session = walk_reading session.rules.kinds session.rules.automaton session.kind
+abbrev pub session_over_walks : SessionState → Reading
+session_over_walks session = walk_reading session.rules.kinds session.rules.automaton session.kind
 
-abbrev pub over_tree : SessionState → Reading
-over_tree session = tree_reading session.rules.kinds session.rules.automaton session.kind
+abbrev pub session_over_tree : SessionState → Reading
+session_over_tree session = tree_reading session.rules.kinds session.rules.automaton session.kind
 
 -- The session stands for the history, by what walks say and by what the tree says.
 abbrev pub StandsForWalks : SessionState → History → Type 0
-StandsForWalks session = Stands (over_walks session) session
+StandsForWalks session = Stands (session_over_walks session) session
 
 abbrev pub StandsFor : SessionState → History → Type 0
-StandsFor session = Stands (over_tree session) session
+StandsFor session = Stands (session_over_tree session) session
 
 -- The reply is due to the command after the history, by what walks say and by what the tree says.
 abbrev pub IsDueOverWalks : SessionState → History → Command → Reply → Type 0
-IsDueOverWalks session = IsReply session.rules.kinds session.kind (over_walks session)
+IsDueOverWalks session = IsReply session.rules.kinds session.kind (session_over_walks session)
 
 abbrev pub IsDueOverTree : SessionState → History → Command → Reply → Type 0
-IsDueOverTree session = IsReply session.rules.kinds session.kind (over_tree session)
+IsDueOverTree session = IsReply session.rules.kinds session.kind (session_over_tree session)

@@ -8,6 +8,7 @@ ghost use Rattle.session_core.specs.Sessions.{StandsFor, StandsForWalks};
 ghost use Rattle.session_core.specs.Sessions.{IsDueOverWalks, IsDueOverTree};
 ghost use Rattle.session_core.specs.Answered.{HasAnswered, extended};
 
+use cell_distance::{DistFault, spot_distance, spot_shortest};
 use reply_model::{Command, Reply, WALKERS};
 use std::alloc::{AllocError, Global};
 use std::marker::Model;
@@ -94,6 +95,9 @@ impl<'r> Session<'r> {
             Command::Go(w, walk) => self.go(*w, walk),
             Command::At(w) => self.at(*w),
             Command::Same(w, v) => Ok(self.same(*w, *v)),
+            Command::Level(w) => Ok(self.level(*w)),
+            Command::Dist(w, v) => self.distance(*w, *v),
+            Command::Path(w, v) => self.path(*w, *v),
         }
     }
 
@@ -170,6 +174,55 @@ impl<'r> Session<'r> {
             Reply::Yes
         } else {
             Reply::No
+        }
+    }
+
+    /// How many crossings walker `w` is away from the root.
+    fn level(&self, w: u8) -> Reply
+        requires { w < most_walkers }
+        ensures { HasAnswered self.now (Command.Level w) result self.now }
+    {
+        match self.spot(w) {
+            Some(spot) => Reply::Level(spot.level() as u32),
+            None => Reply::NoWalker,
+        }
+    }
+
+    /// How many crossings walker `v` is away from walker `w`.
+    fn distance(&self, w: u8, v: u8) -> Result<Reply, AllocError>
+        requires first { w < most_walkers }
+        requires second { v < most_walkers }
+        ensures { IfOk result (λ x. HasAnswered self.now (Command.Dist w v) x self.now) }
+    {
+        let Some(first) = self.spot(w) else {
+            return Ok(Reply::NoWalker);
+        };
+        let Some(second) = self.spot(v) else {
+            return Ok(Reply::NoWalker);
+        };
+        match spot_distance(*self.walkers.allocator(), self.rules, first, second) {
+            Ok(crossings) => Ok(Reply::Dist(crossings)),
+            Err(DistFault::Deep) => Ok(Reply::Deep),
+            Err(DistFault::Memory) => Err(AllocError),
+        }
+    }
+
+    /// A shortest walk from walker `w` to the tile of walker `v`.
+    fn path(&self, w: u8, v: u8) -> Result<Reply, AllocError>
+        requires first { w < most_walkers }
+        requires second { v < most_walkers }
+        ensures { IfOk result (λ x. HasAnswered self.now (Command.Path w v) x self.now) }
+    {
+        let Some(first) = self.spot(w) else {
+            return Ok(Reply::NoWalker);
+        };
+        let Some(second) = self.spot(v) else {
+            return Ok(Reply::NoWalker);
+        };
+        match spot_shortest(*self.walkers.allocator(), self.rules, first, second) {
+            Ok(way) => Ok(Reply::Path(way)),
+            Err(DistFault::Deep) => Ok(Reply::Deep),
+            Err(DistFault::Memory) => Err(AllocError),
         }
     }
 }

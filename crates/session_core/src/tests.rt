@@ -1,4 +1,4 @@
-// Two streams of commands with the replies that are known from outside.
+// Three streams of commands with the replies that are known from outside.
 // Walkers on all ways of a few steps over five tessellations, compared with a slow program that knows no rules.
 ghost use Rattle.std.specs.Prelude.{◌≤◌, length, IsTrue};
 ghost use Rattle.session_core.specs.Sessions.{HasNumbers};
@@ -50,14 +50,35 @@ fn around(alloc: Global) -> Result<Vec<(Command, &'static str)>, AllocError> {
     Ok(stream)
 }
 
+// How far two walkers are from each other and from the root, and shortest walks between them.
+fn apart(alloc: Global) -> Result<Vec<(Command, &'static str)>, AllocError> {
+    let mut stream = Vec::new(alloc);
+    stream.push((Command::Dist(0, 1), "no walker"))?;
+    stream.push((Command::New(0), "ok"))?;
+    stream.push((Command::New(1), "ok"))?;
+    stream.push((Command::Path(0, 1), "path -"))?;
+    stream.push((Command::Go(0, walk(alloc, &[L, X])?), "ok"))?;
+    stream.push((Command::Go(1, walk(alloc, &[X])?), "ok"))?;
+    stream.push((Command::Same(0, 1), "no"))?;
+    stream.push((Command::Dist(0, 1), "dist 2"))?;
+    stream.push((Command::Path(0, 1), "path XLLLLX"))?;
+    stream.push((Command::Go(1, walk(alloc, &[R, X])?), "ok"))?;
+    stream.push((Command::At(1), "at 0.4 0 0"))?;
+    stream.push((Command::Dist(1, 0), "dist 1"))?;
+    stream.push((Command::Level(1), "level 2"))?;
+    Ok(stream)
+}
+
 fn has_numbers(c: &Command) -> bool
     ensures { IsTrue result → HasNumbers c.now }
 {
     match c {
         Command::New(w) => *w < WALKERS,
         Command::Go(w, _) => *w < WALKERS,
-        Command::At(w) => *w < WALKERS,
-        Command::Same(w, v) => *w < WALKERS && *v < WALKERS,
+        Command::At(w) | Command::Level(w) => *w < WALKERS,
+        Command::Same(w, v) | Command::Dist(w, v) | Command::Path(w, v) => {
+            *w < WALKERS && *v < WALKERS
+        }
     }
 }
 
@@ -70,12 +91,30 @@ fn text(x: &Reply) -> &'static str {
         Reply::Taken => "taken",
         Reply::Deep => "deep",
         Reply::At { name, spin, kind } => place(name.sides(), *spin, *kind),
+        Reply::Level(2) => "level 2",
+        Reply::Dist(1) => "dist 1",
+        Reply::Dist(2) => "dist 2",
+        Reply::Level(_) | Reply::Dist(_) => "elsewhere",
+        Reply::Path(way) => path(way.letters()),
     }
+}
+
+fn path(letters: &[Letter]) -> &'static str {
+    if letters.is_empty() {
+        return "path -";
+    }
+    if letters == [X, L, L, L, L, X].as_slice() {
+        return "path XLLLLX";
+    }
+    "elsewhere"
 }
 
 fn place(sides: &[u8], spin: u8, kind: u8) -> &'static str {
     if sides == [0, 4].as_slice() && spin == 4 && kind == 0 {
         return "at 0.4 4 0";
+    }
+    if sides == [0, 4].as_slice() && spin == 0 && kind == 0 {
+        return "at 0.4 0 0";
     }
     if sides.is_empty() && spin == 0 && kind == 0 {
         return "at - 0 0";
@@ -109,6 +148,7 @@ fn walkers_answer(rt: HostRuntime) -> Result<(), Fail> {
     laws::interleaving(&rules, 0);
     assert_eq!(rt; first_wrong(alloc, &rules, &meeting(alloc)?)?, None);
     assert_eq!(rt; first_wrong(alloc, &rules, &around(alloc)?)?, None);
+    assert_eq!(rt; first_wrong(alloc, &rules, &apart(alloc)?)?, None);
     Ok(())
 }
 
@@ -140,14 +180,32 @@ fn way(alloc: Global, number: u8, last: u8) -> Result<Walk, AllocError> {
 }
 
 // The number of ordered pairs of walkers on one tile.
-// None where the session and the slow program do not agree on some pair.
-fn together(session: &mut Session<'_>, tiles: &[u32]) -> Result<Option<u32>, AllocError> {
+// None where the session and the slow program do not agree on some pair, or on its distance.
+fn together(
+    alloc: Global,
+    session: &mut Session<'_>,
+    ball: &Ball<'_>,
+    tiles: &[u32],
+) -> Result<Option<u32>, AllocError> {
     let mut count = 0_u32;
     for w in 0..WALKERS {
+        let Some(here) = tiles.get(w as usize).copied() else {
+            return Ok(None);
+        };
+        let distances = ball.distances(alloc, here)?;
         for v in 0..WALKERS {
-            let one = tiles.get(w as usize) == tiles.get(v as usize);
+            let Some(there) = tiles.get(v as usize).copied() else {
+                return Ok(None);
+            };
+            let one = here == there;
             let want = if one { "yes" } else { "no" };
             if text(&session.apply(&Command::Same(w, v))?) != want {
+                return Ok(None);
+            }
+            let Reply::Dist(crossings) = session.apply(&Command::Dist(w, v))? else {
+                return Ok(None);
+            };
+            if distances.get(there as usize).copied() != Some(Some(crossings)) {
                 return Ok(None);
             }
             count = count.wrapping_add(u32::from(one));
@@ -180,7 +238,7 @@ fn meet(
         session.apply(&Command::New(w))?;
         session.apply(&Command::Go(w, walk))?;
     }
-    together(&mut session, &tiles)
+    together(alloc, &mut session, ball, &tiles)
 }
 
 // The pairs that meet are counted in the drawn tilings too.

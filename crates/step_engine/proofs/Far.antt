@@ -31,7 +31,7 @@ module _ (r : TreeRules) (sound : AreSound r) (s : TreeSpot) (spot : IsSpot r s)
       let place = leads_place r.kinds r.automaton (root_kind r s) sound.valid sound.accepted spot.known (u ++ w) q whole in
       level r.kinds r.automaton (root_kind r s) sound.valid sound.accepted spot.known (u ++ w) q place
 
-  crosses_far : CrossesDeep r s most → CrossesFar r s most
+  pub crosses_far : CrossesDeep r s most → CrossesFar r s most
   crosses_far f = record {
     walk = position_word (position s);
     stands = stands_word;
@@ -40,14 +40,14 @@ module _ (r : TreeRules) (sound : AreSound r) (s : TreeSpot) (spot : IsSpot r s)
     far = f.deep;
   }
 
-  crosses_deep : CrossesFar r s most → CrossesDeep r s most
+  pub crosses_deep : CrossesFar r s most → CrossesDeep r s most
   crosses_deep f =
       let (q, there, x) = across r.kinds r.automaton (root_kind r s) sound.valid sound.accepted spot.known (position s) spot.there in
       let apart = apart_from f.walk (X ∷ []) q f.stands (q, x, refl) in
       let same = one_distance r.kinds (root_kind r s, 0) [] (f.walk ++ X ∷ []) (length q.name) f.distance apart f.apart in
       record { there = q; across = x; deep = omega (arith, f.far, same) }
 
-  walks_far : (w : List Letter) → WalksDeep r s w most → WalksFar r s w most
+  pub walks_far : (w : List Letter) → WalksDeep r s w most → WalksFar r s w most
   walks_far w f = record {
     before = f.before;
     behind = f.behind;
@@ -59,7 +59,7 @@ module _ (r : TreeRules) (sound : AreSound r) (s : TreeSpot) (spot : IsSpot r s)
     far = f.deep;
   }
 
-  walks_deep : (w : List Letter) → WalksFar r s w most → WalksDeep r s w most
+  pub walks_deep : (w : List Letter) → WalksFar r s w most → WalksDeep r s w most
   walks_deep w f =
       let (q, leads) = leads_on r.kinds r.automaton (root_kind r s) sound.valid sound.accepted spot.known (f.before ++ X ∷ []) (position s) spot.there in
       let apart = apart_from f.walk (f.before ++ X ∷ []) q f.stands leads in

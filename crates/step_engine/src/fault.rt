@@ -3,7 +3,7 @@ use std::alloc::AllocError;
 use thiserror::Error;
 
 /// The most sides of the name at which a crossing arrives.
-pub const DEEPEST: usize = 4_000;
+pub const DEEPEST: usize = tree_model::DEEPEST as usize;
 
 /// Why a crossing or a walk is refused.
 #[derive(Clone, Copy, Debug, PartialEq, Eq, Error)]

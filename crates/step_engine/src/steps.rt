@@ -8,13 +8,13 @@ ghost use Rattle.tree_model.specs.Positions.{Position, root};
 ghost use Rattle.tree_model.specs.Places.{position_word};
 ghost use Rattle.spot_laws.specs.Spots.{IsSpot, IsAt, position, root_kind, tile_sides, facing};
 ghost use Rattle.step_engine.specs.Crossings.{IsAcross, WalkLeadsTo, StandsAfter};
-ghost use Rattle.step_engine.specs.Crossings.{CrossesDeep, WalksDeep};
+ghost use Rattle.step_engine.specs.Crossings.{CrossesDeep, CrossesFar, WalksDeep, WalksFar};
 ghost use Rattle.step_engine.specs.Detours.{IsDetour, HasStepped, FacesDeep};
 
 use crate::crossing::{Contour, Crossing};
 use crate::detour::Detour;
 use crate::fault::{DEEPEST, StepFault};
-use crate::tile::tile;
+use crate::tile::{accepted, tile};
 use std::alloc::{AllocError, Global};
 use structure_check::Rules;
 use turn_rules::{Spot, next_left, next_right};
@@ -53,9 +53,33 @@ pub fn turn_right(s: &mut Spot, r: &Rules)
 ///
 /// # Errors
 ///
-/// `Deep` comes exactly where the tile there has a name of more than 4,000 sides.
+/// `Deep` comes exactly where the tile there lies more than 4,000 crossings from the root, that is where
+/// it has a name of more than 4,000 sides.
 /// After an error the spot is as it was.
 pub fn cross(s: &mut Spot, r: &Rules) -> Result<(), StepFault>
+    requires { IsSpot r.now s.old }
+
+    // The spot stands across, in the same tree. No other position lies there.
+    ensures spot { OnOk result (IsSpot r.now s.new) }
+    ensures tree { OnOk result (root_kind r.now s.new ≡ root_kind r.now s.old) }
+    ensures across { OnOk result (IsAcross r.now s.old (position s.new)) }
+    ensures only { (q : Position) → IsAcross r.now s.old q → OnOk result (position s.new ≡ q) }
+
+    // Deep comes for this reason alone, and comes then unless memory runs out.
+    ensures deep { IsErrOf result StepFault.Deep → CrossesDeep r.now s.old DEEPEST }
+    ensures too_deep { CrossesDeep r.now s.old DEEPEST
+        → IsErrOf result StepFault.Deep ⊎ IsErrOf result StepFault.Memory }
+    ensures far { IsErrOf result StepFault.Deep → CrossesFar r.now s.old DEEPEST }
+    ensures too_far { CrossesFar r.now s.old DEEPEST
+        → IsErrOf result StepFault.Deep ⊎ IsErrOf result StepFault.Memory }
+    ensures unchanged { OnErr result (s.new ≡ s.old) }
+{
+    accepted(r);
+    cross_by_detour(s, r)
+}
+
+/// Goes across the faced side by a detour. What `Deep` tells is read off the name of the tile there.
+fn cross_by_detour(s: &mut Spot, r: &Rules) -> Result<(), StepFault>
     requires { IsSpot r.now s.old }
 
     // The spot stands across, in the same tree. No other position lies there.
@@ -80,7 +104,8 @@ pub fn cross(s: &mut Spot, r: &Rules) -> Result<(), StepFault>
 ///
 /// # Errors
 ///
-/// `Deep` comes exactly where some crossing on the way arrives at a name of more than 4,000 sides.
+/// `Deep` comes exactly where some crossing on the way arrives more than 4,000 crossings from the root,
+/// that is at a name of more than 4,000 sides.
 /// After an error the spot is as it was.
 pub fn walk(s: &mut Spot, r: &Rules, w: &Walk) -> Result<(), StepFault>
     requires { IsSpot r.now s.old }
@@ -100,8 +125,12 @@ pub fn walk(s: &mut Spot, r: &Rules, w: &Walk) -> Result<(), StepFault>
     ensures deep { IsErrOf result StepFault.Deep → WalksDeep r.now s.old w.now DEEPEST }
     ensures too_deep { WalksDeep r.now s.old w.now DEEPEST
         → IsErrOf result StepFault.Deep ⊎ IsErrOf result StepFault.Memory }
+    ensures far { IsErrOf result StepFault.Deep → WalksFar r.now s.old w.now DEEPEST }
+    ensures too_far { WalksFar r.now s.old w.now DEEPEST
+        → IsErrOf result StepFault.Deep ⊎ IsErrOf result StepFault.Memory }
     ensures unchanged { OnErr result (s.new ≡ s.old) }
 {
+    accepted(r);
     walk_over(&mut Contour::new(r), s, w)
 }
 

@@ -1,18 +1,31 @@
-// Walks that are known from outside, in a tree of pentagons. The rules are built in `builders`.
-mod builders;
+// Walks that are known from outside, in a tree of pentagons.
+ghost use Rattle.std.specs.Prelude.{IfOk, IfSome};
+ghost use Rattle.spot_laws.specs.Spots.{IsSpot};
+
 mod logged;
 mod slow;
 mod spots;
 
 use crate::laws::{deep_is_far, one_place};
-use crate::{StepFault, cross, spot_walk, turn_left, turn_right, walk};
-use builders::{pentagons, start};
-use std::alloc::Global;
+use crate::{StepFault, cross, root_spot, spot_walk, turn_left, turn_right, walk};
+use sample_tilings::pentagons;
+use std::alloc::{AllocError, Global};
 use std::test::Fail;
 use structure_check::Rules;
 use tree_laws::laws::{contours, levels, matching, places, rings, shortest, weights};
+use turn_rules::Spot;
 use turn_rules::laws::{across_back, round_corner};
 use walk_words::{Walk, print_walk, read_walk};
+
+// Side 0 of the root of kind 0.
+fn start(alloc: Global, r: &Rules) -> Result<Option<Spot>, AllocError>
+    ensures { IfOk result (λ found. IfSome found (IsSpot r.now)) }
+{
+    if r.tessellation().kinds() == 0 {
+        return Ok(None);
+    }
+    Ok(Some(root_spot(alloc, r, 0)?))
+}
 
 // Whether the walk leads from there to this side of this tile.
 fn leads(alloc: Global, r: &Rules, w: &Walk, sides: &[u8], spin: u8) -> Result<bool, StepFault> {
@@ -43,7 +56,7 @@ fn copies(alloc: Global, r: &Rules, w: &Walk) -> Result<bool, StepFault> {
 #[test]
 fn crosses_by_brackets(rt: HostRuntime) -> Result<(), Fail> {
     let alloc = rt.alloc();
-    let Some(r) = pentagons(alloc)? else {
+    let Some(r) = pentagons(alloc) else {
         panic!(rt; "refused");
     };
     let there = read_walk(alloc, b"LXLX")?;
@@ -59,7 +72,7 @@ fn crosses_by_brackets(rt: HostRuntime) -> Result<(), Fail> {
 #[test]
 fn writes_the_word_of_a_spot(rt: HostRuntime) -> Result<(), Fail> {
     let alloc = rt.alloc();
-    let Some(r) = pentagons(alloc)? else {
+    let Some(r) = pentagons(alloc) else {
         panic!(rt; "refused");
     };
     let Some(mut s) = start(alloc, &r)? else {
@@ -75,7 +88,7 @@ fn writes_the_word_of_a_spot(rt: HostRuntime) -> Result<(), Fail> {
 #[test]
 fn calls_the_laws(rt: HostRuntime) -> Result<(), Fail> {
     let alloc = rt.alloc();
-    let Some(r) = pentagons(alloc)? else {
+    let Some(r) = pentagons(alloc) else {
         panic!(rt; "refused");
     };
     assert_eq!(rt; r.tessellation().kinds(), 1);

@@ -3,6 +3,7 @@ ghost use Rattle.std.specs.Prelude.{◌≡◌, ◌<◌, ◌≤◌, true, false, 
 ghost use Rattle.tree_model.specs.Automata.{next, previous, rule_at, side_count as count};
 ghost use Rattle.spot_laws.specs.Spots.{BracketsAreFew};
 
+use rules_data::{left_side, right_side};
 use structure_check::Rules;
 use tree_model::Rule;
 
@@ -27,14 +28,12 @@ pub fn rule(r: &Rules, state: u32, side: u8) -> Rule
 }
 
 /// The side to the left of a side of a tile in a state of the rules.
-#[tactic(auto, unfolding(tree_model::specs::Automata::next))]
 pub fn next_left(r: &Rules, state: u32, side: u8) -> u8
     requires state { state < length r.now.automaton.states }
     requires side { side < count r.now.kinds r.now.automaton state }
     ensures { result ≡ next (count r.now.kinds r.now.automaton state) side }
 {
-    let sides = side_count(r, state);
-    if side + 1 == sides { 0 } else { side + 1 }
+    left_side(side_count(r, state), side)
 }
 
 /// The side to the right of a side of a tile in a state of the rules.
@@ -43,11 +42,7 @@ pub fn next_right(r: &Rules, state: u32, side: u8) -> u8
     requires side { side < count r.now.kinds r.now.automaton state }
     ensures { result ≡ previous (count r.now.kinds r.now.automaton state) side }
 {
-    if side == 0 {
-        side_count(r, state) - 1
-    } else {
-        side - 1
-    }
+    right_side(side_count(r, state), side)
 }
 
 /// A counter of open brackets below 2^127 is enough for the walk along the contour, leftwards or rightwards, from a

@@ -55,6 +55,43 @@ impl<'t> Ball<'t> {
         Some(self.sides.get(side)?.tile)
     }
 
+    /// How many crossings the tiles are away from one of them, by crossings of joined sides.
+    pub fn distances(&self, alloc: Global, from: u32) -> Result<Vec<Option<u32>>, AllocError> {
+        let mut found = Vec::new(alloc);
+        for tile in 0..self.tiles {
+            found.push(if tile == from { Some(0) } else { None })?;
+        }
+        for layer in 0..self.tiles {
+            if !self.add_layer(&mut found, layer) {
+                break;
+            }
+        }
+        Ok(found)
+    }
+
+    // Finds the tiles next to those of a layer, and tells whether there was a new one.
+    fn add_layer(&self, found: &mut Vec<Option<u32>>, layer: u32) -> bool {
+        let mut more = false;
+        for side in &self.sides {
+            if found.get(side.tile as usize).copied() != Some(Some(layer)) {
+                continue;
+            }
+            let Some(across) = side.across else {
+                continue;
+            };
+            let Some(next) = self.tile(across) else {
+                continue;
+            };
+            if let Some(entry) = found.get_mut(next as usize) {
+                if entry.is_none() {
+                    *entry = Some(layer.wrapping_add(1));
+                    more = true;
+                }
+            }
+        }
+        more
+    }
+
     fn add_tile(&mut self, kind: u8) -> Result<(), AllocError> {
         if u16::from(kind) >= self.tess.kinds() {
             return Ok(());

@@ -1,8 +1,9 @@
 // A crossing that keeps a log, in the place of the contour.
 ghost use Rattle.std.specs.Prelude.{◌≡◌};
 
-use super::builders::{pentagons, start};
+use super::start;
 use crate::{Contour, Crossing, Detour, StepFault, walk_over};
+use sample_tilings::pentagons;
 use std::alloc::AllocError;
 use std::test::Fail;
 use structure_check::Rules;
@@ -52,7 +53,7 @@ impl<'r> Logged<'r> {
 #[test]
 fn logs_what_a_walk_crosses(rt: HostRuntime) -> Result<(), Fail> {
     let alloc = rt.alloc();
-    let Some(r) = pentagons(alloc)? else {
+    let Some(r) = pentagons(alloc) else {
         panic!(rt; "refused");
     };
     let Some(mut s) = start(alloc, &r)? else {

@@ -3,9 +3,10 @@
 ghost use Rattle.std.specs.Prelude.{OnOk};
 ghost use Rattle.spot_laws.specs.Spots.{IsSpot};
 
-use super::builders::{heptagons, pentagons, start, truncated};
+use super::start;
 use crate::walk;
 use rules_data::Rule;
+use sample_tilings::{heptagons, heptagons_and_hexagons, pentagons};
 use std::alloc::{AllocError, Global};
 use std::test::Fail;
 use structure_check::Rules;
@@ -170,8 +171,8 @@ fn agree_far(alloc: Global, rules: Option<Rules>) -> Result<bool, Fail> {
 #[test]
 fn walks_as_defined(rt: HostRuntime) -> Result<(), Fail> {
     let alloc = rt.alloc();
-    assert!(rt; agree_far(alloc, pentagons(alloc)?)?);
-    assert!(rt; agree_far(alloc, heptagons(alloc)?)?);
-    assert!(rt; agree_far(alloc, truncated(alloc)?)?);
+    assert!(rt; agree_far(alloc, pentagons(alloc))?);
+    assert!(rt; agree_far(alloc, heptagons(alloc))?);
+    assert!(rt; agree_far(alloc, heptagons_and_hexagons(alloc))?);
     Ok(())
 }

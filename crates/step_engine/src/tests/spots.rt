@@ -2,8 +2,9 @@
 ghost use Rattle.std.specs.Prelude.{OnOk};
 ghost use Rattle.spot_laws.specs.Spots.{IsSpot};
 
-use super::builders::{start, truncated};
+use super::start;
 use rules_data::Rule;
+use sample_tilings::heptagons_and_hexagons;
 use smallvec::SmallVec;
 use std::alloc::{AllocError, Global};
 use std::test::Fail;
@@ -49,7 +50,7 @@ fn is_at(s: &Spot, sides: &[u8], states: &[u32], spin: u8) -> bool {
 #[test]
 fn enters_and_leaves(rt: HostRuntime) -> Result<(), Fail> {
     let alloc = rt.alloc();
-    let Some(r) = truncated(alloc)? else {
+    let Some(r) = heptagons_and_hexagons(alloc) else {
         panic!(rt; "refused");
     };
     let Some(mut s) = start(alloc, &r)? else {
@@ -71,7 +72,7 @@ fn enters_and_leaves(rt: HostRuntime) -> Result<(), Fail> {
 #[test]
 fn goes_on_by_other_sides(rt: HostRuntime) -> Result<(), Fail> {
     let alloc = rt.alloc();
-    let Some(r) = truncated(alloc)? else {
+    let Some(r) = heptagons_and_hexagons(alloc) else {
         panic!(rt; "refused");
     };
     let Some(mut s) = start(alloc, &r)? else {

@@ -12,7 +12,7 @@ returns-in_default-clause-none c = λ w rest is.
 pub returns-in_err-w-clause-none : goal.returns-in_err-w-clause-none
 returns-in_err-w-clause-none c = if_err c.from_residual.result λ w rest is.
     let same =
-      one_split space is.digits c.in-Some.digits.now rest c.in-Some.rest.now
-      (walker_lacks is.digits w is.number) c.in-Some.ensures.first
-      (sym is.text ∙ c.in-Some.ensures.split) in
+    one_split space is.digits c.in-Some.digits.now rest c.in-Some.rest.now
+    (walker_lacks is.digits w is.number) c.in-Some.ensures.first
+    (sym is.text ∙ c.in-Some.ensures.split) in
     c.in_err-w.ensures.none w (subst (λ (l : List ℕ). IsWalkerNumber l w) same.0 is.number)

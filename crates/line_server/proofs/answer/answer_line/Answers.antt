@@ -6,13 +6,15 @@ use Rattle.line_server.proofs.Answering.{on_ok, on_err, then_err, no_bytes, repl
 use Rattle.line_server.proofs.Saying.{says_same, breaks_same}
 use Rattle.line_server.proofs.answer.answer_line.Goals as goal
 
-pub returns-then-line-gt-LONGEST_LINE-clause-replied : goal.returns-then-line-gt-LONGEST_LINE-clause-replied
+pub returns-then-line-gt-LONGEST_LINE-clause-replied :
+    goal.returns-then-line-gt-LONGEST_LINE-clause-replied
 returns-then-line-gt-LONGEST_LINE-clause-replied g c =
     on_ok c.say.result
     (λ said. replies_so _ _ _ _ _ _ too_long_text _ _ (is_too_long c.args.session.now _ _ c.if-line-gt-LONGEST_LINE.true) (says_same _ _ _ _ _ _ _ c.too_long_line.ensures said))
     c.say.ensures.said
 
-pub returns-then-line-gt-LONGEST_LINE-clause-failed : goal.returns-then-line-gt-LONGEST_LINE-clause-failed
+pub returns-then-line-gt-LONGEST_LINE-clause-failed :
+    goal.returns-then-line-gt-LONGEST_LINE-clause-failed
 returns-then-line-gt-LONGEST_LINE-clause-failed g c =
     then_err c.say.result
     (λ broken. fails_so _ _ _ _ _ _ too_long_text _ (is_too_long c.args.session.now _ _ c.if-line-gt-LONGEST_LINE.true) (breaks_same _ _ _ _ _ _ c.too_long_line.ensures broken))
@@ -20,32 +22,37 @@ returns-then-line-gt-LONGEST_LINE-clause-failed g c =
 
 pub returns-then-is_empty-clause-replied : goal.returns-then-is_empty-clause-replied
 returns-then-is_empty-clause-replied g c =
-    let short : length c.args.line.now ≤ most_of_line = omega (arith, c.if-line-gt-LONGEST_LINE.false) in
+    let short : length c.args.line.now ≤ most_of_line =
+    omega (arith, c.if-line-gt-LONGEST_LINE.false) in
     says_nothing _ _ _ _ _ _ short (no_bytes _ (grind (arith, nat_tests)))
 
 pub apply-requires : goal.apply-requires
 apply-requires g c = numbers_told _ _ c.in-Ok.ensures.spelt
 
 pub returns-in_err-reply-in-Ok-clause-failed : goal.returns-in_err-reply-in-Ok-clause-failed
-returns-in_err-reply-in-Ok-clause-failed g c = on_err c.from_residual.result (fails_before _ _ _ _ _ _)
+returns-in_err-reply-in-Ok-clause-failed g c =
+    on_err c.from_residual.result (fails_before _ _ _ _ _ _)
 
 pub returns-in_ok-reply-in-Ok-clause-replied : goal.returns-in_ok-reply-in-Ok-clause-replied
 returns-in_ok-reply-in-Ok-clause-replied g c =
-    let short : length c.args.line.now ≤ most_of_line = omega (arith, c.if-line-gt-LONGEST_LINE.false) in
+    let short : length c.args.line.now ≤ most_of_line =
+    omega (arith, c.if-line-gt-LONGEST_LINE.false) in
     on_ok c.say_reply.result
     (replies _ _ _ _ _ _ _ _ _ short c.in-Ok.ensures.spelt c.in_ok-reply-in-Ok.ensures.due_over_walks _ _ c.in_ok-reply-in-Ok.ensures.stands_over_walks c.apply.ensures.rules c.apply.ensures.kind)
     c.say_reply.ensures.said
 
 pub returns-in_ok-reply-in-Ok-clause-failed : goal.returns-in_ok-reply-in-Ok-clause-failed
 returns-in_ok-reply-in-Ok-clause-failed g c =
-    let short : length c.args.line.now ≤ most_of_line = omega (arith, c.if-line-gt-LONGEST_LINE.false) in
+    let short : length c.args.line.now ≤ most_of_line =
+    omega (arith, c.if-line-gt-LONGEST_LINE.false) in
     then_err c.say_reply.result
     (fails_replying _ _ c.apply.new.self _ _ _ _ _ _ short c.in-Ok.ensures.spelt c.in_ok-reply-in-Ok.ensures.due_over_walks _)
     c.say_reply.ensures.broken
 
 pub returns-in-Err-Bad-clause-replied : goal.returns-in-Err-Bad-clause-replied
 returns-in-Err-Bad-clause-replied g c =
-    let short : length c.args.line.now ≤ most_of_line = omega (arith, c.if-line-gt-LONGEST_LINE.false) in
+    let short : length c.args.line.now ≤ most_of_line =
+    omega (arith, c.if-line-gt-LONGEST_LINE.false) in
     let told = c.read_line.ensures.bad (c.in-Err-Bad.is ∙ ap Err c.in-Err-Bad.field-0-is) in
     let some : c.args.text.now ≢ [] = λ e. absurd (grind (arith, nat_tests)) in
     on_ok c.say-in-Err-Bad.result
@@ -54,7 +61,8 @@ returns-in-Err-Bad-clause-replied g c =
 
 pub returns-in-Err-Bad-clause-failed : goal.returns-in-Err-Bad-clause-failed
 returns-in-Err-Bad-clause-failed g c =
-    let short : length c.args.line.now ≤ most_of_line = omega (arith, c.if-line-gt-LONGEST_LINE.false) in
+    let short : length c.args.line.now ≤ most_of_line =
+    omega (arith, c.if-line-gt-LONGEST_LINE.false) in
     let told = c.read_line.ensures.bad (c.in-Err-Bad.is ∙ ap Err c.in-Err-Bad.field-0-is) in
     let some : c.args.text.now ≢ [] = λ e. absurd (grind (arith, nat_tests)) in
     then_err c.say-in-Err-Bad.result

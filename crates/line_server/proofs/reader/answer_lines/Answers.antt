@@ -24,20 +24,25 @@ loop-line-preserved g c = record {
   same_sink = c.in_ok-answer_end.ensures.same_sink ∙ c.loop-line.invariant.same_sink;
   same_waiting = c.in_ok-answer_end.ensures.same_waiting ∙ c.loop-line.invariant.same_waiting;
   going = λ dropped d.
-      replied _ _ dropped _ _ _ _ _ _ _ _ c.in-Some.line.now c.in-Some.behind.now _ _ (c.loop-line.invariant.going dropped d) c.in-Some.ensures.split c.in-Some.ensures.line (λ hidden h. c.in_ok-answer_end.ensures.replied hidden _ h (text_behind hidden c.in-Some.line.now _ _ h c.text_of.ensures.text));
+      replied _ _ dropped _ _ _ _ _ _ _ _ c.in-Some.line.now c.in-Some.behind.now _ _
+      (c.loop-line.invariant.going dropped d) c.in-Some.ensures.split c.in-Some.ensures.line
+      (λ hidden h. c.in_ok-answer_end.ensures.replied hidden _ h (text_behind hidden c.in-Some.line.now _ _ h c.text_of.ensures.text));
   front = (
     c.loop-line.invariant.front.0 ++ (c.in-Some.line.now ++ feed ∷ []),
     c.loop-line.invariant.front.1
-    ∙ ap (λ l. c.loop-line.invariant.front.0 ++ l) (c.in-Some.ensures.split ∙ sym (append_assoc c.in-Some.line.now (feed ∷ []) c.in-Some.behind.now))
-    ∙ sym (append_assoc c.loop-line.invariant.front.0 (c.in-Some.line.now ++ feed ∷ []) c.in-Some.behind.now),
+        ∙ ap (λ l. c.loop-line.invariant.front.0 ++ l) (c.in-Some.ensures.split ∙ sym (append_assoc c.in-Some.line.now (feed ∷ []) c.in-Some.behind.now))
+        ∙ sym (append_assoc c.loop-line.invariant.front.0 (c.in-Some.line.now ++ feed ∷ []) c.in-Some.behind.now),
   );
   later = omega (arith, c.loop-line.invariant.later, c.in_ok-answer_end.ensures.later);
 }
 
 pub returns-in_err-write-clause-stopped : goal.returns-in_err-write-clause-stopped
 returns-in_err-write-clause-stopped g c = λ dropped d.
-    on_err _ (stops _ _ dropped _ _ _ _ _ _ _ _ (c.loop-line.invariant.going dropped d) c.in_err-write.ensures.broken)
+    on_err _
+    (stops _ _ dropped _ _ _ _ _ _ _ _ (c.loop-line.invariant.going dropped d) c.in_err-write.ensures.broken)
 
 pub returns-clause-answered : goal.returns-clause-answered
 returns-clause-answered g c = λ dropped d.
-    comes _ _ dropped _ _ _ _ c.loop-line.invariant.front.0 _ _ _ _ _ (c.loop-line.invariant.going dropped d) c.in_ok-write.ensures.said c.in_ok-write.ensures.empty c.loop-line.invariant.front.1 c.in_default.ensures.none
+    comes _ _ dropped _ _ _ _ c.loop-line.invariant.front.0 _ _ _ _ _
+    (c.loop-line.invariant.going dropped d) c.in_ok-write.ensures.said c.in_ok-write.ensures.empty
+    c.loop-line.invariant.front.1 c.in_default.ensures.none

@@ -11,7 +11,9 @@ invariant-loop-line g l = record {
   going :
       (dropped : List ℕ)
       → AreDropped l.initial.lost dropped
-      → Going g.O.Sink.tells l.initial.session dropped l.bytes (g.O.Sink.taken l.initial.outbox.sink.now) l.session l.lost l.rest (g.O.Sink.taken l.outbox.sink.now) l.outbox.waiting.now.items;
+      → Going g.O.Sink.tells l.initial.session dropped l.bytes
+      (g.O.Sink.taken l.initial.outbox.sink.now) l.session l.lost l.rest
+      (g.O.Sink.taken l.outbox.sink.now) l.outbox.waiting.now.items;
   front : (front : List ℕ) × (l.bytes ≡ front ++ l.rest);
   later : g.O.Sink.faults l.initial.outbox.sink.now ≤ g.O.Sink.faults l.outbox.sink.now;
 }

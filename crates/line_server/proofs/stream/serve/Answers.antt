@@ -8,7 +8,8 @@ pub returns-clause-read_fault : goal.returns-clause-read_fault
 returns-clause-read_fault g c = ends.read_fault _ _ _ _ _ _ _ _ _ c.serve_through.ensures.ends
 
 pub returns-clause-input_too_long : goal.returns-clause-input_too_long
-returns-clause-input_too_long g c = ends.input_too_long _ _ _ _ _ _ _ _ _ c.serve_through.ensures.ends
+returns-clause-input_too_long g c =
+    ends.input_too_long _ _ _ _ _ _ _ _ _ c.serve_through.ensures.ends
 
 pub returns-clause-begun : goal.returns-clause-begun
 returns-clause-begun g c = ends.begun _ _ _ _ _ _ _ _ _ c.serve_through.ensures.ends
@@ -21,4 +22,3 @@ returns-clause-overrun g c = ends.overrun _ _ _ _ _ _ _ _ _ c.serve_through.ensu
 
 pub returns-clause-in_order : goal.returns-clause-in_order
 returns-clause-in_order g c = ends.in_order _ _ _ _ _ _ _ _ _ c.serve_through.ensures.ends
-

@@ -11,7 +11,9 @@ invariant-loop-count g l = record {
   same_waiting : l.outbox.waiting.ghost_name ≡ l.initial.outbox.waiting.ghost_name;
   shape : IsReader l.reader;
   written : l.outbox.waiting.now.items ≡ [];
-  serving : Serving g.I.Source.tells g.O.Sink.tells l.initial.session (g.I.Source.left l.initial.input) (g.O.Sink.taken l.initial.outbox.sink.now) l.session l.reader (g.I.Source.left l.input) (g.O.Sink.taken l.outbox.sink.now) l.total;
+  serving : Serving g.I.Source.tells g.O.Sink.tells l.initial.session
+      (g.I.Source.left l.initial.input) (g.O.Sink.taken l.initial.outbox.sink.now) l.session l.reader
+      (g.I.Source.left l.input) (g.O.Sink.taken l.outbox.sink.now) l.total;
   few : l.total ≤ most_of_stream;
   reads_later : g.I.Source.faults l.initial.input ≤ g.I.Source.faults l.input;
   writes_later : g.O.Sink.faults l.initial.outbox.sink.now ≤ g.O.Sink.faults l.outbox.sink.now;

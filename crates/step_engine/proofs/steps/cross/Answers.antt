@@ -1,18 +1,12 @@
-use Rattle.step_engine.proofs.Detours.{sides_small}
-use Rattle.step_engine.proofs.Walks.{crossed_only, crossed_near}
+use Rattle.step_engine.proofs.Far.{crosses_far, crosses_deep}
 use Rattle.step_engine.proofs.steps.cross.Goals as goal
 
-pub returns-clause-only : goal.returns-clause-only
-returns-clause-only c = λ q a.
-    let start = c.start-detour.ensures in
-    crossed_only c.args.r.now start.detour.sound c.args.s.now c.requires c.start-detour.result c.cross.new.self c.finish.new.s start c.in_ok-cross.ensures.crossed c.in_ok-finish.ensures.there q a
+pub returns-clause-far : goal.returns-clause-far
+returns-clause-far c = λ e.
+    let far = crosses_far c.args.r.now c.accepted.ensures c.args.s.now c.requires 4000 in
+    far (c.cross_by_detour.ensures.deep e)
 
-pub returns-clause-too_deep : goal.returns-clause-too_deep
-returns-clause-too_deep c = λ deep.
-    let start = c.start-detour.ensures in
-    absurd (crossed_near c.args.r.now start.detour.sound c.args.s.now c.requires 4000 c.start-detour.result c.cross.new.self start c.in_ok-cross.ensures.crossed c.in_ok-cross.ensures.near deep)
-
-pub finish-requires-clause-below : goal.finish-requires-clause-below
-finish-requires-clause-below c =
-    let detour = c.in_ok-cross.ensures.crossed.detour in
-    sides_small c.args.r.now detour.sound c.args.s.now c.cross.new.self detour
+pub returns-clause-too_far : goal.returns-clause-too_far
+returns-clause-too_far c = λ far.
+    let deep = crosses_deep c.args.r.now c.accepted.ensures c.args.s.now c.requires 4000 in
+    c.cross_by_detour.ensures.too_deep (deep far)

@@ -5,14 +5,21 @@ use Rattle.line_server.proofs.reader.Reader.finish.Goals as goal
 
 pub returns-in_err-answer_end-clause-failed : goal.returns-in_err-answer_end-clause-failed
 returns-in_err-answer_end-clause-failed g c = λ line k.
-    on_err _ (failed_last _ _ c.args.self.now line _ _ _ _ c.requires.written k (ap (take c.args.self.now.kept) c.deref.ensures.value) c.in_err-answer_end.ensures.failed)
+    on_err _
+    (failed_last _ _ c.args.self.now line _ _ _ _ c.requires.written k (ap (take c.args.self.now.kept) c.deref.ensures.value) c.in_err-answer_end.ensures.failed)
 
 pub returns-in_err-write-clause-failed : goal.returns-in_err-write-clause-failed
 returns-in_err-write-clause-failed g c = λ line k.
-    let said = replied_last _ _ _ c.args.self.now line _ _ _ _ _ k (ap (take c.args.self.now.kept) c.deref.ensures.value) c.in_ok-answer_end.ensures.replied in
-    on_err _ (fails_writing _ _ _ line _ _ _ _ c.requires.written said _ c.in_err-write.ensures.broken)
+    let said =
+    replied_last _ _ _ c.args.self.now line _ _ _ _ _ k
+    (ap (take c.args.self.now.kept) c.deref.ensures.value) c.in_ok-answer_end.ensures.replied in
+    on_err _
+    (fails_writing _ _ _ line _ _ _ _ c.requires.written said _ c.in_err-write.ensures.broken)
 
 pub returns-clause-ended : goal.returns-clause-ended
 returns-clause-ended g c = λ line k.
-    let said = replied_last _ _ _ c.args.self.now line _ _ _ _ _ k (ap (take c.args.self.now.kept) c.deref.ensures.value) c.in_ok-answer_end.ensures.replied in
-    ends _ _ _ line _ _ _ _ c.requires.written said _ _ c.in_ok-write.ensures.said c.in_ok-write.ensures.empty
+    let said =
+    replied_last _ _ _ c.args.self.now line _ _ _ _ _ k
+    (ap (take c.args.self.now.kept) c.deref.ensures.value) c.in_ok-answer_end.ensures.replied in
+    ends _ _ _ line _ _ _ _ c.requires.written said _ _ c.in_ok-write.ensures.said
+    c.in_ok-write.ensures.empty

@@ -63,3 +63,26 @@ returns-in-Same-clause-due_over_walks c =
 pub returns-in-Same-clause-stands_over_walks : goal.returns-in-Same-clause-stands_over_walks
 returns-in-Same-clause-stands_over_walks c =
     (same_command _ _ _ _ _ c.in-Same.is c.same.ensures).stands_over_walks
+
+pub returns-in-Level-clause-stands : goal.returns-in-Level-clause-stands
+returns-in-Level-clause-stands c = (same_command _ _ _ _ _ c.in-Level.is c.level.ensures).stands
+
+pub returns-in-Level-clause-stands_over_walks : goal.returns-in-Level-clause-stands_over_walks
+returns-in-Level-clause-stands_over_walks c =
+    (same_command _ _ _ _ _ c.in-Level.is c.level.ensures).stands_over_walks
+
+pub returns-in-Dist-clause-stands : goal.returns-in-Dist-clause-stands
+returns-in-Dist-clause-stands c =
+    answered_stands _ _ _ _ (same_answer _ _ _ _ _ c.in-Dist.is c.distance.ensures)
+
+pub returns-in-Dist-clause-stands_over_walks : goal.returns-in-Dist-clause-stands_over_walks
+returns-in-Dist-clause-stands_over_walks c =
+    answered_stands_over_walks _ _ _ _ (same_answer _ _ _ _ _ c.in-Dist.is c.distance.ensures)
+
+pub returns-in-Path-clause-stands : goal.returns-in-Path-clause-stands
+returns-in-Path-clause-stands c =
+    answered_stands _ _ _ _ (same_answer _ _ _ _ _ c.in-Path.is c.path.ensures)
+
+pub returns-in-Path-clause-stands_over_walks : goal.returns-in-Path-clause-stands_over_walks
+returns-in-Path-clause-stands_over_walks c =
+    answered_stands_over_walks _ _ _ _ (same_answer _ _ _ _ _ c.in-Path.is c.path.ensures)
