@@ -84,7 +84,7 @@ fn check_rules<F: Files>(
 {
     let tess = match load_tess(alloc, files, tess) {
         Ok(tess) => tess,
-        Err(refusal) => return Err(refusal),
+        Err(unread) => return Err(unread),
     };
     let rules = match load_rules(alloc, files, tess, rules) {
         Ok(rules) => rules,

@@ -11,12 +11,12 @@ use Rattle.walker_cli.proofs.decide.check_rules.Goals as goal
 
 pub returns-in-Err-clause-due : goal.returns-in-Err-clause-due
 returns-in-Err-clause-due g c = λ told.
-    refusal_fits (g.F.Files.contents c.args.files.now) (CheckRules c.args.tess.now c.args.rules.now) c.in-Err.refusal (λ answer is. (check_no_tess answer (c.in-Err.ensures.refused told answer (ap Err is))))
+    refusal_fits (g.F.Files.contents c.args.files.now) (CheckRules c.args.tess.now c.args.rules.now) c.in-Err.unread (λ answer is. (check_no_tess answer (c.in-Err.ensures.refused told answer (ap Err is))))
     (λ role is. subst (λ (r : Role). FetchesFor (g.F.Files.contents c.args.files.now) (CheckRules c.args.tess.now c.args.rules.now) r) (sym (c.in-Err.ensures.role role (ap Err is))) tt)
 
 pub returns-in-Err-clause-exact : goal.returns-in-Err-clause-exact
 returns-in-Err-clause-exact g c = λ told answer row.
-    check_unread {T = List TileKind} _ c.args.tess.now c.args.rules.now (λ t. t) c.in-Err.refusal
+    check_unread {T = List TileKind} _ c.args.tess.now c.args.rules.now (λ t. t) c.in-Err.unread
     (record { too_long = c.in-Err.ensures.too_long told; bad_line = c.in-Err.ensures.bad_line told; bad_kinds = c.in-Err.ensures.bad_kinds told; loaded = c.in-Err.ensures.loaded told })
     row
 
