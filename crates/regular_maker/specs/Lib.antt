@@ -1,0 +1,5 @@
+pub mod Regular
+pub mod Corners
+pub mod States
+pub mod Pairs
+pub mod Automaton

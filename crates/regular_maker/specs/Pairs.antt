@@ -1,0 +1,33 @@
+-- What holds of the pair of each state of {p,q}: the claims lie on the two sides of the lowest tile of their corner, and the run of Right
+-- sides ends before that of Left sides begins.
+use Rattle.std.specs.Prelude.{ℕ, suc, ◌+◌, ◌<◌, ◌≤◌, ◌⊎◌}
+use Rattle.tree_model.specs.declared.Claim.{Claim}
+use Rattle.regular_maker.specs.Corners.{half, parity}
+use Rattle.regular_maker.specs.declared.symbol.Pair.{Pair}
+
+-- there are 3 to 64 sides, and 3 to 64 tiles round a corner
+pub record HasRange (p q : ℕ) : Type 0 where
+  pub sides : (3 ≤ p) × (p ≤ 64)
+  pub tiles : (3 ≤ q) × (q ≤ 64)
+
+-- a claim of a corner type, at a place behind the lowest tile
+pub record IsBehind (q : ℕ) (c : Claim) : Type 0 where
+  pub corner : c.corner ≤ parity q
+  pub behind : half q + c.corner < c.place
+  pub place : c.place < q
+
+-- a claim of a corner type, at a place before the lowest tile
+pub record IsAhead (q : ℕ) (c : Claim) : Type 0 where
+  pub corner : c.corner ≤ parity q
+  pub ahead : c.place < half q
+
+-- For triangles: one of the claims is next to the lowest tile, or both are next but one at most.
+abbrev pub AreNear : ℕ → Claim → Claim → Type 0
+AreNear q c d =
+    (c.place ≤ suc (half q + c.corner)) ⊎ ((half q ≤ suc d.place)
+    ⊎ ((c.place ≤ 2 + (half q + c.corner)) × (half q ≤ 2 + d.place)))
+
+pub record IsPair (p q : ℕ) (x : Pair) : Type 0 where
+  pub first : IsBehind q x.first
+  pub last : IsAhead q x.last
+  pub apart : (4 ≤ p) ⊎ AreNear q x.first x.last

@@ -1,0 +1,24 @@
+-- Regular tessellations {p,q}: one kind of tile, with p sides that are all alike, and q tiles round each corner.
+use Rattle.std.specs.Prelude.{◌≡◌, ℕ, ◌-◌, ◌*◌, ◌<◌, ◌≤◌, List, length}
+use Rattle.tile_model.specs.Tessellations.{TileKind, kind_at, valence}
+
+-- There is one kind, and its repeat is 1.
+pub record IsRegular (kinds : List TileKind) : Type 0 where
+  pub one_kind : length kinds ≡ 1
+  pub one_type : (kind_at kinds 0).repeat ≡ 1
+
+-- p of {p,q}: the number of sides of a tile
+abbrev pub sides_of : List TileKind → ℕ
+sides_of kinds = (kind_at kinds 0).sides
+
+-- q of {p,q}: the number of tiles round a corner
+abbrev pub tiles_at : List TileKind → ℕ
+tiles_at kinds = valence kinds (0, 0)
+
+-- {p,q} lies in the plane or the hyperbolic plane, and has infinitely many tiles.
+abbrev pub IsInfinite : ℕ → ℕ → Type 0
+IsInfinite p q = 4 ≤ ((p - 2) * (q - 2))
+
+-- {p,q} lies on the sphere, and has finitely many tiles.
+abbrev pub IsSpherical : ℕ → ℕ → Type 0
+IsSpherical p q = ((p - 2) * (q - 2)) < 4
