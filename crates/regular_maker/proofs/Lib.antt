@@ -2,3 +2,8 @@ pub mod Shapes
 pub mod Runs
 pub mod Claims
 pub mod Children
+pub mod Listed
+pub mod Numbers
+pub mod Growing
+pub mod Few
+pub mod AllPairs

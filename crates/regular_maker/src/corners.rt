@@ -8,6 +8,7 @@ use rules_data::Corner;
 use std::alloc::{AllocError, Global};
 
 /// The depth of the tile at place `t` of a corner less that of the tile at place 0.
+#[tactic(auto, unfolding(crate::specs::Corners::depth_at, crate::specs::Corners::half, crate::specs::Corners::parity))]
 fn depth_at(symbol: Symbol, corner: u32, t: u8) -> i8
     requires range { HasRange symbol.p symbol.q }
     requires corner { corner ≤ parity symbol.q }
@@ -23,6 +24,7 @@ fn depth_at(symbol: Symbol, corner: u32, t: u8) -> i8
 }
 
 /// A corner type.
+#[tactic(auto, unfolding(crate::specs::Corners::parity))]
 fn corner_type(alloc: Global, symbol: Symbol, corner: u32) -> Result<Corner, AllocError>
     requires range { HasRange symbol.p symbol.q }
     requires corner { corner ≤ parity symbol.q }
@@ -40,6 +42,7 @@ fn corner_type(alloc: Global, symbol: Symbol, corner: u32) -> Result<Corner, All
 }
 
 /// All corner types.
+#[tactic(auto, unfolding(crate::specs::Corners::parity))]
 pub fn corner_types(alloc: Global, symbol: Symbol) -> Result<Vec<Corner>, AllocError>
     requires { HasRange symbol.p symbol.q }
     ensures { IfOk result (λ corners. corners.items ≡ corner_types symbol.q) }

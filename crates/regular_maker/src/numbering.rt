@@ -8,6 +8,7 @@ use crate::symbol::{Pair, Symbol};
 use std::alloc::{AllocError, Global};
 
 /// The number of entries before the first that is the pair, or of all where none is.
+#[tactic(auto, unfolding(crate::specs::Automaton::index_in, crate::specs::Automaton::same_pair))]
 pub fn index_of(pairs: &[Pair], pair: Pair) -> usize
     ensures { result ≡ index_in pairs.now pair }
 {
@@ -20,6 +21,7 @@ pub fn index_of(pairs: &[Pair], pair: Pair) -> usize
 }
 
 /// Adds a pair where it is not there yet.
+#[tactic(auto, unfolding(crate::specs::Automaton::with_pair))]
 fn add(pairs: &mut Vec<Pair>, pair: Pair) -> Result<(), AllocError>
     ensures { OnOk result (pairs.new.items ≡ with_pair pairs.old.items pair) }
 {
@@ -30,6 +32,7 @@ fn add(pairs: &mut Vec<Pair>, pair: Pair) -> Result<(), AllocError>
 }
 
 /// Adds the pairs of the children of the state of a pair, by increasing side.
+#[tactic(auto, unfolding(crate::specs::Automaton::met_at))]
 fn meet(symbol: Symbol, pairs: &mut Vec<Pair>, pair: Pair) -> Result<(), AllocError>
     requires range { HasRange symbol.p symbol.q }
     requires pair { IsPair symbol.p symbol.q pair }

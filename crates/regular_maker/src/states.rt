@@ -9,6 +9,7 @@ use rules_data::{Rule, State};
 use std::alloc::{AllocError, Global};
 
 /// The rule of a side of the state of a pair.
+#[tactic(auto, unfolding(crate::specs::Automaton::rule_of, crate::specs::Automaton::number_of))]
 fn rule_of(symbol: Symbol, pairs: &[Pair], pair: Pair, side: u8) -> Rule
     requires range { HasRange symbol.p symbol.q }
     requires few { length pairs.now ≤ 16384 }
@@ -28,6 +29,7 @@ fn rule_of(symbol: Symbol, pairs: &[Pair], pair: Pair, side: u8) -> Rule
 }
 
 /// The root: each side leads to a child in state 1.
+#[tactic(auto, unfolding(crate::specs::Automaton::root_state))]
 fn root_state(alloc: Global, symbol: Symbol) -> Result<State, AllocError>
     ensures { IfOk result (λ s. s ≡ root_state symbol.p symbol.q) }
 {
@@ -41,6 +43,7 @@ fn root_state(alloc: Global, symbol: Symbol) -> Result<State, AllocError>
 }
 
 /// The state of a pair.
+#[tactic(auto, unfolding(crate::specs::Automaton::state_of))]
 fn state_of(
     alloc: Global,
     symbol: Symbol,
@@ -68,6 +71,7 @@ fn state_of(
 }
 
 /// All states: the root, and behind it those of the pairs.
+#[tactic(auto, unfolding(crate::specs::Automaton::states_of))]
 pub fn states_of(
     alloc: Global,
     symbol: Symbol,

@@ -1,7 +1,7 @@
 // The symbol {p,q} of a regular tessellation, and the claims round its corners.
 ghost use Rattle.std.specs.Prelude.{◌≡◌, ◌+◌, ◌-◌, ◌<◌, ◌≤◌, IsTrue};
 ghost use Rattle.regular_maker.specs.Corners.{outer_of};
-ghost use Rattle.regular_maker.specs.States.{lowest, beyond, right_claim, right_run, left_claim, left_run, rights, lefts, claim_of, is_child, child_pair, first_pair};
+ghost use Rattle.regular_maker.specs.States.{between, lowest, beyond, right_claim, right_run, left_claim, left_run, rights, lefts, claim_of, is_child, child_pair, first_pair};
 ghost use Rattle.regular_maker.specs.Pairs.{HasRange, IsPair};
 
 use tree_model::Claim;
@@ -23,7 +23,7 @@ pub struct Pair {
 /// The pair of the child between two claims of its parent.
 fn between(before: Claim, behind: Claim) -> Pair
     requires { before.place < 64 }
-    ensures { result ≡ States.between before behind }
+    ensures { result ≡ between before behind }
 {
     Pair {
         first: Claim {
@@ -39,6 +39,7 @@ fn between(before: Claim, behind: Claim) -> Pair
 
 impl Symbol {
     /// The claim of a corner of which this tile is the lowest.
+    #[tactic(auto, unfolding(crate::specs::States::lowest, crate::specs::Corners::half))]
     pub fn lowest(self) -> Claim
         ensures { result ≡ lowest self.q }
     {
@@ -49,9 +50,11 @@ impl Symbol {
     }
 
     /// The corner at the other end of the key edge of a corner type.
+    #[tactic(auto, unfolding(crate::specs::Corners::outer_of, crate::specs::Corners::half, crate::specs::Corners::parity))]
     pub fn outer(self, corner: u32) -> Claim
         requires { HasRange self.p self.q }
-        ensures { result ≡ outer_of self.q corner }
+        ensures value { result ≡ outer_of self.q corner }
+        ensures place { result.place < 64 }
     {
         let other = ((self.q % 2) as u32).saturating_sub(corner);
         Claim {
@@ -61,6 +64,7 @@ impl Symbol {
     }
 
     /// The claim behind a Right side, from the corner type of the claim before it.
+    #[tactic(auto, unfolding(crate::specs::States::beyond))]
     fn beyond(self, corner: u32) -> Claim
         requires { HasRange self.p self.q }
         ensures { result ≡ beyond self.q corner }
@@ -73,6 +77,7 @@ impl Symbol {
     }
 
     /// The claim so many sides behind a claim, where Right sides lie between.
+    #[tactic(auto, unfolding(crate::specs::States::right_claim))]
     fn right_claim(self, first: Claim, sides: u8) -> Claim
         requires { HasRange self.p self.q }
         ensures { result ≡ right_claim self.q first sides }
@@ -85,6 +90,7 @@ impl Symbol {
     }
 
     /// The claim so many sides before a claim, where Left sides lie between.
+    #[tactic(auto, unfolding(crate::specs::States::left_claim))]
     fn left_claim(self, last: Claim, sides: u8) -> Claim
         requires { HasRange self.p self.q }
         ensures { result ≡ left_claim self.q last sides }
@@ -97,6 +103,7 @@ impl Symbol {
     }
 
     /// The number of Right sides behind the parent side.
+    #[tactic(auto, unfolding(crate::specs::States::rights))]
     pub fn rights(self, pair: Pair) -> u8
         requires { HasRange self.p self.q }
         ensures value { result ≡ rights self.p self.q pair }
@@ -113,6 +120,7 @@ impl Symbol {
     }
 
     /// The number of Left sides before the parent side.
+    #[tactic(auto, unfolding(crate::specs::States::lefts))]
     pub fn lefts(self, pair: Pair) -> u8
         requires { HasRange self.p self.q }
         ensures value { result ≡ lefts self.p self.q pair }
@@ -129,6 +137,7 @@ impl Symbol {
     }
 
     /// Claim `i` of the state of a pair.
+    #[tactic(auto, unfolding(crate::specs::States::claim_of))]
     pub fn claim(self, pair: Pair, i: u8) -> Claim
         requires range { HasRange self.p self.q }
         requires pair { IsPair self.p self.q pair }
@@ -146,6 +155,7 @@ impl Symbol {
     }
 
     /// Whether side `i` of the state of a pair leads to a child.
+    #[tactic(auto, unfolding(crate::specs::States::is_child))]
     pub fn is_child(self, pair: Pair, i: u8) -> bool
         requires range { HasRange self.p self.q }
         requires side { i < self.p }
@@ -155,6 +165,7 @@ impl Symbol {
     }
 
     /// The pair of the child across side `i` of the state of a pair.
+    #[tactic(auto, unfolding(crate::specs::States::child_pair))]
     pub fn child_pair(self, pair: Pair, i: u8) -> Pair
         requires range { HasRange self.p self.q }
         requires pair { IsPair self.p self.q pair }
