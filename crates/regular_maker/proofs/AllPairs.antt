@@ -42,7 +42,7 @@ module _ (p q : ℕ) (shape : IsShape p q) where
       let e : (16384 - n) + n ≡ 16384 = omega (arith, h) in
       subst (λ m. Grows q (met p q n) (met p q m)) e (met_grows p q shape n (16384 - n))
 
-  first_met : (met p q 0) ≡ first_pair q ∷ []
+  pub first_met : met p q 0 ≡ first_pair q ∷ []
   unfolding met
   first_met = refl
 

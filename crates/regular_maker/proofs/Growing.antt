@@ -53,7 +53,7 @@ module _ (q : ℕ) where
   in_grows {xs} {ys} g x h =
       in_from ys x (index_in xs x) (omega (arith, g.longer, h)) (g.same (index_in xs x) h ∙ in_at xs x h)
 
-  with_old : (xs : List Pair) (x : Pair) → IsIn xs x → with_pair xs x ≡ xs
+  pub with_old : (xs : List Pair) (x : Pair) → IsIn xs x → with_pair xs x ≡ xs
   unfolding with_pair
   with_old xs x h = rw (lt-ltb (index_in xs x) (length xs) h) refl
 

@@ -7,3 +7,4 @@ pub mod Numbers
 pub mod Growing
 pub mod Few
 pub mod AllPairs
+pub mod Tables

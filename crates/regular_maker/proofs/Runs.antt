@@ -116,6 +116,26 @@ module _ (q : ℕ) where
   left_few zero c = omega arith
   left_few (suc n) c = less_step n c (left_few n (outer_of q c.corner)) (cases_eq c.place 0)
 
+-- One step along a run, of which r sides are behind and n sides are left at most, t in all.
+module _ (q : ℕ) where
+  pub right_end : (c : Claim) (n r t : ℕ) → suc c.place ≢ q → r + right_run q c n ≡ t → r ≡ t
+  right_end c n r t other e = omega (arith, right_run_none q c n other, e)
+
+  pub right_more : (c : Claim) (n m r t : ℕ) → suc c.place ≡ q → n ≡ suc m → r + right_run q c n ≡ t → r + 1 + right_run q (beyond q c.corner) m ≡ t
+  right_more c n m r t last f e = omega (arith, right_run_more q c m last, ap (right_run q c) f, e)
+
+  pub right_full : (c : Claim) (n r t : ℕ) → n ≡ 0 → r + right_run q c n ≡ t → r ≡ t
+  right_full c n r t f e = omega (arith, right_few q n c, f, e)
+
+  pub left_end : (c : Claim) (n r t : ℕ) → c.place ≢ 0 → r + left_run q c n ≡ t → r ≡ t
+  left_end c n r t other e = omega (arith, left_run_none q c n other, e)
+
+  pub left_more : (c : Claim) (n m r t : ℕ) → c.place ≡ 0 → n ≡ suc m → r + left_run q c n ≡ t → r + 1 + left_run q (outer_of q c.corner) m ≡ t
+  left_more c n m r t first f e = omega (arith, left_run_more q c m first, ap (left_run q c) f, e)
+
+  pub left_full : (c : Claim) (n r t : ℕ) → n ≡ 0 → r + left_run q c n ≡ t → r ≡ t
+  left_full c n r t f e = omega (arith, left_few q n c, f, e)
+
 module _ (p q : ℕ) (shape : IsShape p q) where
   -- the claims of a run lie on the side of the lowest tile on which its first one lies
   pub right_stays : (c : Claim) (i : ℕ) → IsRight q c → IsRight q (right_claim q c i)

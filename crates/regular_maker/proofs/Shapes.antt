@@ -2,10 +2,10 @@
 use Rattle.std.proofs.Common.{◌≡◌, ℕ, suc, ◌+◌, ◌-◌, ◌*◌, ◌/◌, ◌%◌, ◌<◌, ◌≤◌, ◌⊎◌, inl, inr, refl, ap, subst, arith}
 use Rattle.std.proofs.lemmas.Bool.{cases_lt, cases_eq}
 use Rattle.tree_model.specs.declared.Claim.{Claim}
-use Rattle.regular_maker.specs.Regular.{IsInfinite}
+use Rattle.regular_maker.specs.Regular.{IsInfinite, IsSymbol}
 use Rattle.regular_maker.specs.Corners.{half, parity, outer_of}
 use Rattle.regular_maker.specs.States.{lowest, beyond, nearer}
-use Rattle.regular_maker.specs.Pairs.{HasRange, IsBehind, IsAhead}
+use Rattle.regular_maker.specs.Pairs.{IsBehind, IsAhead}
 
 -- One number is 3 and the other at least 6, or both are at least 4.
 pub record IsShape (p q : ℕ) : Type 0 where
@@ -29,21 +29,21 @@ threes p q e h =
     let i : 4 ≤ (p - 2) * (3 - 2) = subst (λ n. 4 ≤ (p - 2) * (n - 2)) e h in
     omega (arith, i)
 
-pub shape_of : (p q : ℕ) → HasRange p q → IsInfinite p q → IsShape p q
-shape_of p q range infinite = record {
-    sides = range.sides;
-    tiles = range.tiles;
+pub shape_of : (p q : ℕ) → IsSymbol p q → IsShape p q
+shape_of p q symbol = record {
+    sides = symbol.sides;
+    tiles = symbol.tiles;
     halves = (halves q).0;
     parity = (halves q).1;
     cases = which (cases_eq p 3) (cases_eq q 3);
   }
   where
     which : (p ≡ 3) ⊎ (p ≡ 3 → ⊥) → (q ≡ 3) ⊎ (q ≡ 3 → ⊥) → ((p ≡ 3) × (6 ≤ q)) ⊎ (((q ≡ 3) × (6 ≤ p)) ⊎ ((4 ≤ p) × (4 ≤ q)))
-    which (inl e) _ = inl (e, triangles p q e infinite)
-    which (inr other) (inl e) = inr (inl (e, threes p q e infinite))
+    which (inl e) _ = inl (e, triangles p q e symbol.infinite)
+    which (inr other) (inl e) = inr (inl (e, threes p q e symbol.infinite))
     which (inr other) (inr more) =
-        let s = range.sides in
-        let t = range.tiles in
+        let s = symbol.sides in
+        let t = symbol.tiles in
         inr (inr (omega (arith, other, s), omega (arith, more, t)))
 
 -- a claim at the lowest tile of its corner or behind it

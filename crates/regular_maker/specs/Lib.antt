@@ -3,3 +3,4 @@ pub mod Corners
 pub mod States
 pub mod Pairs
 pub mod Automaton
+pub mod Rules

@@ -5,11 +5,6 @@ use Rattle.tree_model.specs.declared.Claim.{Claim}
 use Rattle.regular_maker.specs.Corners.{half, parity}
 use Rattle.regular_maker.specs.declared.symbol.Pair.{Pair}
 
--- there are 3 to 64 sides, and 3 to 64 tiles round a corner
-pub record HasRange (p q : ℕ) : Type 0 where
-  pub sides : (3 ≤ p) × (p ≤ 64)
-  pub tiles : (3 ≤ q) × (q ≤ 64)
-
 -- a claim of a corner type, at a place behind the lowest tile
 pub record IsBehind (q : ℕ) (c : Claim) : Type 0 where
   pub corner : c.corner ≤ parity q

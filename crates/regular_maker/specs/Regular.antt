@@ -22,3 +22,9 @@ IsInfinite p q = 4 ≤ ((p - 2) * (q - 2))
 -- {p,q} lies on the sphere, and has finitely many tiles.
 abbrev pub IsSpherical : ℕ → ℕ → Type 0
 IsSpherical p q = ((p - 2) * (q - 2)) < 4
+
+-- {p,q} is infinite, and both numbers are those of a tessellation.
+pub record IsSymbol (p q : ℕ) : Type 0 where
+  pub sides : (3 ≤ p) × (p ≤ 64)
+  pub tiles : (3 ≤ q) × (q ≤ 64)
+  pub infinite : IsInfinite p q

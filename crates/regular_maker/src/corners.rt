@@ -1,7 +1,7 @@
 // The corner types of a regular tessellation.
 ghost use Rattle.std.specs.Prelude.{◌≡◌, ◌<◌, ◌≤◌, IfOk};
 ghost use Rattle.regular_maker.specs.Corners.{depth_at, listed, parity, corner_type, corner_types};
-ghost use Rattle.regular_maker.specs.Pairs.{HasRange};
+ghost use Rattle.regular_maker.specs.Regular.{IsSymbol};
 
 use crate::symbol::Symbol;
 use rules_data::Corner;
@@ -10,7 +10,7 @@ use std::alloc::{AllocError, Global};
 /// The depth of the tile at place `t` of a corner less that of the tile at place 0.
 #[tactic(auto, unfolding(crate::specs::Corners::depth_at, crate::specs::Corners::half, crate::specs::Corners::parity))]
 fn depth_at(symbol: Symbol, corner: u32, t: u8) -> i8
-    requires range { HasRange symbol.p symbol.q }
+    requires symbol { IsSymbol symbol.p symbol.q }
     requires corner { corner ≤ parity symbol.q }
     requires place { t < symbol.q }
     ensures { result ≡ depth_at symbol.q corner t }
@@ -26,7 +26,7 @@ fn depth_at(symbol: Symbol, corner: u32, t: u8) -> i8
 /// A corner type.
 #[tactic(auto, unfolding(crate::specs::Corners::parity))]
 fn corner_type(alloc: Global, symbol: Symbol, corner: u32) -> Result<Corner, AllocError>
-    requires range { HasRange symbol.p symbol.q }
+    requires symbol { IsSymbol symbol.p symbol.q }
     requires corner { corner ≤ parity symbol.q }
     ensures { IfOk result (λ g. g ≡ corner_type symbol.q corner) }
 {
@@ -44,7 +44,7 @@ fn corner_type(alloc: Global, symbol: Symbol, corner: u32) -> Result<Corner, All
 /// All corner types.
 #[tactic(auto, unfolding(crate::specs::Corners::parity))]
 pub fn corner_types(alloc: Global, symbol: Symbol) -> Result<Vec<Corner>, AllocError>
-    requires { HasRange symbol.p symbol.q }
+    requires { IsSymbol symbol.p symbol.q }
     ensures { IfOk result (λ corners. corners.items ≡ corner_types symbol.q) }
 {
     let mut corners = Vec::with_capacity(alloc, 2)?;

@@ -1,9 +1,9 @@
 // The rules of a regular tessellation.
-ghost use Rattle.std.specs.Prelude.{◌≡◌, ◌<◌, ◌≤◌, ◌↔◌, IfOk, MatchResult};
-ghost use Rattle.tree_model.specs.Conditions.{IsAccepted};
+ghost use Rattle.std.specs.Prelude.{◌≡◌, ◌↔◌, ℕ, IfOk, IfErr, IsErrOf};
+ghost use Rattle.structure_check.specs.Rules.{AreSound};
 ghost use Rattle.regular_maker.specs.Automaton.{regular_automaton};
-ghost use Rattle.regular_maker.specs.Regular.{IsRegular, IsInfinite, sides_of, tiles_at};
-ghost use Rattle.regular_maker.specs.Pairs.{HasRange};
+ghost use Rattle.regular_maker.specs.Rules.{AreRegular};
+ghost use Rattle.regular_maker.specs.Regular.{IsRegular, IsInfinite, IsSpherical, IsSymbol, sides_of, tiles_at};
 
 use crate::corners::corner_types;
 use crate::fault::RegFault;
@@ -17,8 +17,7 @@ use tile_kinds::Tessellation;
 
 /// The automaton of an infinite regular tessellation.
 fn automaton(alloc: Global, symbol: Symbol) -> Result<Automaton, AllocError>
-    requires range { HasRange symbol.p symbol.q }
-    requires infinite { IsInfinite symbol.p symbol.q }
+    requires symbol { IsSymbol symbol.p symbol.q }
     ensures { IfOk result (λ a. a ≡ regular_automaton symbol.p symbol.q) }
 {
     let pairs = all_pairs(alloc, symbol)?;
@@ -30,8 +29,20 @@ fn automaton(alloc: Global, symbol: Symbol) -> Result<Automaton, AllocError>
     })
 }
 
-/// Rules.
-pub fn regular(alloc: Global, t: &Tessellation) -> Result<Rules, RegFault> {
+/// The rules of a regular tessellation {p,q} with infinitely many tiles, that is with (p - 2)(q - 2) of at least 4: a copy of the
+/// tessellation, and the automaton whose states are the pairs of claims at both sides of the parent side, numbered as they are first met.
+/// For each such tessellation they come or memory runs out. NotRegular comes exactly where there are two or more kinds or a repeat over 1,
+/// and Spherical, with p and q, exactly where the tessellation is regular and has finitely many tiles.
+pub fn regular(alloc: Global, t: &Tessellation) -> Result<Rules, RegFault>
+    ensures rules { IfOk result (AreRegular t.now) }
+    ensures sound { IfOk result (λ r. AreSound r) }
+    ensures complete { IsRegular t.now → IsInfinite (sides_of t.now) (tiles_at t.now) → IfErr result (λ fault. fault ≡ RegFault.Memory) }
+    ensures not_regular { IsErrOf result RegFault.NotRegular ↔ (¬ (IsRegular t.now)) }
+    ensures spherical {
+        (p q : ℕ) → IsErrOf result (RegFault.Spherical p q)
+            ↔ (IsRegular t.now × (p ≡ sides_of t.now) × (q ≡ tiles_at t.now) × IsSpherical p q)
+    }
+{
     if t.kinds() != 1 || t.kind(0).repeat != 1 {
         return Err(RegFault::NotRegular);
     }

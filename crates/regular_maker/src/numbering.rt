@@ -1,8 +1,8 @@
 // The pairs of all states, in the order in which they are first met.
 ghost use Rattle.std.specs.Prelude.{◌≡◌, ◌<◌, ◌≤◌, List, length, All, OnOk, IfOk};
 ghost use Rattle.regular_maker.specs.Automaton.{index_in, with_pair, met_at, all_pairs};
-ghost use Rattle.regular_maker.specs.Regular.{IsInfinite};
-ghost use Rattle.regular_maker.specs.Pairs.{HasRange, IsPair};
+ghost use Rattle.regular_maker.specs.Regular.{IsSymbol};
+ghost use Rattle.regular_maker.specs.Pairs.{IsPair};
 
 use crate::symbol::{Pair, Symbol};
 use std::alloc::{AllocError, Global};
@@ -34,7 +34,7 @@ fn add(pairs: &mut Vec<Pair>, pair: Pair) -> Result<(), AllocError>
 /// Adds the pairs of the children of the state of a pair, by increasing side.
 #[tactic(auto, unfolding(crate::specs::Automaton::met_at))]
 fn meet(symbol: Symbol, pairs: &mut Vec<Pair>, pair: Pair) -> Result<(), AllocError>
-    requires range { HasRange symbol.p symbol.q }
+    requires symbol { IsSymbol symbol.p symbol.q }
     requires pair { IsPair symbol.p symbol.q pair }
     ensures { OnOk result (pairs.new.items ≡ met_at symbol.p symbol.q pairs.old.items pair symbol.p) }
 {
@@ -48,8 +48,7 @@ fn meet(symbol: Symbol, pairs: &mut Vec<Pair>, pair: Pair) -> Result<(), AllocEr
 
 /// The pairs of all states behind the root, in the order in which they are first met.
 pub fn all_pairs(alloc: Global, symbol: Symbol) -> Result<Vec<Pair>, AllocError>
-    requires range { HasRange symbol.p symbol.q }
-    requires infinite { IsInfinite symbol.p symbol.q }
+    requires symbol { IsSymbol symbol.p symbol.q }
     ensures { IfOk result (λ pairs. pairs.items ≡ all_pairs symbol.p symbol.q) }
 {
     let mut pairs = vec![in alloc; symbol.first_pair()]?;

@@ -1,7 +1,8 @@
 // The states of a regular tessellation.
 ghost use Rattle.std.specs.Prelude.{◌≡◌, ◌<◌, ◌≤◌, List, length, All, IfOk};
 ghost use Rattle.regular_maker.specs.Automaton.{rule_of, root_state, state_of, states_of};
-ghost use Rattle.regular_maker.specs.Pairs.{HasRange, IsPair};
+ghost use Rattle.regular_maker.specs.Pairs.{IsPair};
+ghost use Rattle.regular_maker.specs.Regular.{IsSymbol};
 
 use crate::numbering::index_of;
 use crate::symbol::{Pair, Symbol};
@@ -11,7 +12,7 @@ use std::alloc::{AllocError, Global};
 /// The rule of a side of the state of a pair.
 #[tactic(auto, unfolding(crate::specs::Automaton::rule_of, crate::specs::Automaton::number_of))]
 fn rule_of(symbol: Symbol, pairs: &[Pair], pair: Pair, side: u8) -> Rule
-    requires range { HasRange symbol.p symbol.q }
+    requires symbol { IsSymbol symbol.p symbol.q }
     requires few { length pairs.now ≤ 16384 }
     requires pair { IsPair symbol.p symbol.q pair }
     requires side { side < symbol.p }
@@ -50,7 +51,7 @@ fn state_of(
     pairs: &[Pair],
     pair: Pair,
 ) -> Result<State, AllocError>
-    requires range { HasRange symbol.p symbol.q }
+    requires symbol { IsSymbol symbol.p symbol.q }
     requires few { length pairs.now ≤ 16384 }
     requires pair { IsPair symbol.p symbol.q pair }
     ensures { IfOk result (λ s. s ≡ state_of symbol.p symbol.q pairs.now pair) }
@@ -77,7 +78,7 @@ pub fn states_of(
     symbol: Symbol,
     pairs: &[Pair],
 ) -> Result<Vec<State>, AllocError>
-    requires range { HasRange symbol.p symbol.q }
+    requires symbol { IsSymbol symbol.p symbol.q }
     requires few { length pairs.now ≤ 16384 }
     requires pairs { All (IsPair symbol.p symbol.q) pairs.now }
     ensures { IfOk result (λ states. states.items ≡ states_of symbol.p symbol.q pairs.now) }

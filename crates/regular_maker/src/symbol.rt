@@ -2,7 +2,8 @@
 ghost use Rattle.std.specs.Prelude.{◌≡◌, ◌+◌, ◌-◌, ◌<◌, ◌≤◌, IsTrue};
 ghost use Rattle.regular_maker.specs.Corners.{outer_of};
 ghost use Rattle.regular_maker.specs.States.{between, lowest, beyond, right_claim, right_run, left_claim, left_run, rights, lefts, claim_of, is_child, child_pair, first_pair};
-ghost use Rattle.regular_maker.specs.Pairs.{HasRange, IsPair};
+ghost use Rattle.regular_maker.specs.Pairs.{IsPair};
+ghost use Rattle.regular_maker.specs.Regular.{IsSymbol};
 
 use tree_model::Claim;
 
@@ -52,7 +53,7 @@ impl Symbol {
     /// The corner at the other end of the key edge of a corner type.
     #[tactic(auto, unfolding(crate::specs::Corners::outer_of, crate::specs::Corners::half, crate::specs::Corners::parity))]
     pub fn outer(self, corner: u32) -> Claim
-        requires { HasRange self.p self.q }
+        requires { IsSymbol self.p self.q }
         ensures value { result ≡ outer_of self.q corner }
         ensures place { result.place < 64 }
     {
@@ -66,7 +67,7 @@ impl Symbol {
     /// The claim behind a Right side, from the corner type of the claim before it.
     #[tactic(auto, unfolding(crate::specs::States::beyond))]
     fn beyond(self, corner: u32) -> Claim
-        requires { HasRange self.p self.q }
+        requires { IsSymbol self.p self.q }
         ensures { result ≡ beyond self.q corner }
     {
         let outer = self.outer(corner);
@@ -79,7 +80,7 @@ impl Symbol {
     /// The claim so many sides behind a claim, where Right sides lie between.
     #[tactic(auto, unfolding(crate::specs::States::right_claim))]
     fn right_claim(self, first: Claim, sides: u8) -> Claim
-        requires { HasRange self.p self.q }
+        requires { IsSymbol self.p self.q }
         ensures { result ≡ right_claim self.q first sides }
     {
         let mut claim = first;
@@ -92,7 +93,7 @@ impl Symbol {
     /// The claim so many sides before a claim, where Left sides lie between.
     #[tactic(auto, unfolding(crate::specs::States::left_claim))]
     fn left_claim(self, last: Claim, sides: u8) -> Claim
-        requires { HasRange self.p self.q }
+        requires { IsSymbol self.p self.q }
         ensures { result ≡ left_claim self.q last sides }
     {
         let mut claim = last;
@@ -105,7 +106,7 @@ impl Symbol {
     /// The number of Right sides behind the parent side.
     #[tactic(auto, unfolding(crate::specs::States::rights))]
     pub fn rights(self, pair: Pair) -> u8
-        requires { HasRange self.p self.q }
+        requires { IsSymbol self.p self.q }
         ensures value { result ≡ rights self.p self.q pair }
         ensures few { result < self.p }
     {
@@ -122,7 +123,7 @@ impl Symbol {
     /// The number of Left sides before the parent side.
     #[tactic(auto, unfolding(crate::specs::States::lefts))]
     pub fn lefts(self, pair: Pair) -> u8
-        requires { HasRange self.p self.q }
+        requires { IsSymbol self.p self.q }
         ensures value { result ≡ lefts self.p self.q pair }
         ensures few { result < self.p }
     {
@@ -139,7 +140,7 @@ impl Symbol {
     /// Claim `i` of the state of a pair.
     #[tactic(auto, unfolding(crate::specs::States::claim_of))]
     pub fn claim(self, pair: Pair, i: u8) -> Claim
-        requires range { HasRange self.p self.q }
+        requires symbol { IsSymbol self.p self.q }
         requires pair { IsPair self.p self.q pair }
         requires side { i < self.p }
         ensures value { result ≡ claim_of self.p self.q pair i }
@@ -157,7 +158,7 @@ impl Symbol {
     /// Whether side `i` of the state of a pair leads to a child.
     #[tactic(auto, unfolding(crate::specs::States::is_child))]
     pub fn is_child(self, pair: Pair, i: u8) -> bool
-        requires range { HasRange self.p self.q }
+        requires symbol { IsSymbol self.p self.q }
         requires side { i < self.p }
         ensures { result ≡ is_child self.p self.q pair i }
     {
@@ -167,7 +168,7 @@ impl Symbol {
     /// The pair of the child across side `i` of the state of a pair.
     #[tactic(auto, unfolding(crate::specs::States::child_pair))]
     pub fn child_pair(self, pair: Pair, i: u8) -> Pair
-        requires range { HasRange self.p self.q }
+        requires symbol { IsSymbol self.p self.q }
         requires pair { IsPair self.p self.q pair }
         requires side { i < self.p }
         ensures { result ≡ child_pair self.p self.q pair i }
@@ -176,8 +177,9 @@ impl Symbol {
     }
 
     /// The pair of the children of the root.
+    #[tactic(auto, unfolding(crate::specs::States::lowest, crate::specs::Corners::half))]
     pub fn first_pair(self) -> Pair
-        requires { HasRange self.p self.q }
+        requires { IsSymbol self.p self.q }
         ensures { result ≡ first_pair self.q }
     {
         between(self.lowest(), self.lowest())

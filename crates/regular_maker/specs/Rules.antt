@@ -1,0 +1,13 @@
+-- The rules of a regular tessellation.
+use Rattle.std.specs.Prelude.{◌≡◌, List}
+use Rattle.tile_model.specs.Tessellations.{TileKind}
+use Rattle.structure_check.specs.Rules.{TreeRules}
+use Rattle.regular_maker.specs.Regular.{IsRegular, IsInfinite, sides_of, tiles_at}
+use Rattle.regular_maker.specs.Automaton.{regular_automaton}
+
+-- The rules of a file that is regular and infinite: its own kinds, and this automaton.
+pub record AreRegular (kinds : List TileKind) (rules : TreeRules) : Type 0 where
+  pub regular : IsRegular kinds
+  pub infinite : IsInfinite (sides_of kinds) (tiles_at kinds)
+  pub kinds : rules.kinds ≡ kinds
+  pub automaton : rules.automaton ≡ regular_automaton (sides_of kinds) (tiles_at kinds)
