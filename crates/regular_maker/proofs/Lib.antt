@@ -8,3 +8,7 @@ pub mod Growing
 pub mod Few
 pub mod AllPairs
 pub mod Tables
+pub mod Over
+pub mod CornerConditions
+pub mod TableCondition
+pub mod SideConditions

@@ -10,7 +10,7 @@ use Rattle.tree_model.specs.Automata.{TreeState, TreeAutomaton, CornerType, no_s
 use Rattle.tree_model.specs.Conditions.{IsRoot}
 use Rattle.regular_maker.specs.Corners.{half, parity, listed, depth_at, outer_of, corner_type, corner_types}
 use Rattle.regular_maker.specs.States.{lowest, rights, lefts, claim_of, child_pair}
-use Rattle.regular_maker.specs.Automaton.{number_of, rule_of, root_state, state_of, states_of, pair_at, all_pairs, regular_automaton}
+use Rattle.regular_maker.specs.Automaton.{number_of, rule_of, root_state, state_of, nth_state, states_of, pair_at, all_pairs, regular_automaton}
 use Rattle.regular_maker.specs.declared.symbol.Pair.{Pair}
 use Rattle.regular_maker.proofs.Listed.{length-listed, listed_at}
 
@@ -27,15 +27,15 @@ module _ (p q : ℕ) where
 
   pub state_count : length A.states ≡ suc (length pairs)
   unfolding states_of
-  state_count = ap suc (length-listed (λ n. state_of p q pairs (pair_at q pairs n)) (length pairs))
+  state_count = ap suc (length-listed (nth_state p q pairs) (length pairs))
 
   pub root_is : state_at A 0 ≡ root_state p q
   unfolding state_at states_of
   root_is = refl
 
   pub state_is : (k : ℕ) → k < length pairs → state_at A (suc k) ≡ state_of p q pairs (pair k)
-  unfolding state_at states_of
-  state_is k h = listed_at (λ n. state_of p q pairs (pair_at q pairs n)) (length pairs) k no_state h
+  unfolding state_at states_of nth_state
+  state_is k h = listed_at (nth_state p q pairs) (length pairs) k no_state h
 
   pub root_rule : (i : ℕ) → i < p → rule_at A 0 i ≡ Child 1
   unfolding rule_at root_state
@@ -121,8 +121,6 @@ module _ (p q : ℕ) (ps : List Pair) (x : Pair) (i : ℕ) where
   unfolding rule_of
   ruled = go (cases_eq i 0) (cases_lt (rights p q x) i) (cases_lt (i + lefts p q x) p)
     where
-      R : Rule → Type 0
-      R r = IsRuled p q ps x i r
       go : (i ≡ 0) ⊎ (i ≡ 0 → ⊥) → (rights p q x < i) ⊎ (i ≤ rights p q x) → (i + lefts p q x < p) ⊎ (p ≤ i + lefts p q x)
           → IsRuled p q ps x i (if nat_eq i 0 then Parent else if nat_le i (rights p q x) then Right else if nat_le p (i + lefts p q x) then Left else Child (number_of ps (child_pair p q x i)))
       go (inl e) _ _ = rw (eq-eqb i 0 e) (its_parent e)

@@ -65,9 +65,13 @@ root_state p q = record { kind = 0; off = 0; rules = replicate p (Child 1); clai
 unfoldable pub state_of : ℕ → ℕ → List Pair → Pair → TreeState
 state_of p q pairs x = record { kind = 0; off = 0; rules = listed (rule_of p q pairs x) p; claims = listed (claim_of p q x) p }
 
+-- the state of entry n of a list of pairs
+unfoldable pub nth_state : ℕ → ℕ → List Pair → ℕ → TreeState
+nth_state p q pairs n = state_of p q pairs (pair_at q pairs n)
+
 -- the states of the pairs of a list, behind the root
 unfoldable pub states_of : ℕ → ℕ → List Pair → List TreeState
-states_of p q pairs = root_state p q ∷ listed (λ n. state_of p q pairs (pair_at q pairs n)) (length pairs)
+states_of p q pairs = root_state p q ∷ listed (nth_state p q pairs) (length pairs)
 
 -- the automaton of {p,q}
 abbrev pub regular_automaton : ℕ → ℕ → TreeAutomaton

@@ -6,8 +6,8 @@ use Rattle.regular_maker.specs.Regular.{IsRegular, IsInfinite, sides_of, tiles_a
 use Rattle.regular_maker.specs.Automaton.{regular_automaton}
 
 -- The rules of a file that is regular and infinite: its own kinds, and this automaton.
-pub record AreRegular (kinds : List TileKind) (rules : TreeRules) : Type 0 where
-  pub regular : IsRegular kinds
-  pub infinite : IsInfinite (sides_of kinds) (tiles_at kinds)
-  pub kinds : rules.kinds ≡ kinds
-  pub automaton : rules.automaton ≡ regular_automaton (sides_of kinds) (tiles_at kinds)
+pub record AreRegular (tess : List TileKind) (rules : TreeRules) : Type 0 where
+  pub regular : IsRegular tess
+  pub infinite : IsInfinite (sides_of tess) (tiles_at tess)
+  pub kinds : rules.kinds ≡ tess
+  pub automaton : rules.automaton ≡ regular_automaton (sides_of tess) (tiles_at tess)
