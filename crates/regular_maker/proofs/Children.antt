@@ -48,7 +48,7 @@ pub nearer_ahead : (q : ℕ) (c d : Claim) → IsOpen q c d → IsAhead q (neare
 nearer_ahead q c d h = record { corner = h.ahead.corner; ahead = omega (arith, h.ahead.ahead, h.not_first) }
 
 module _ (p q : ℕ) (shape : IsShape p q) where
-  root_open : IsOpen q (lowest q) (lowest q)
+  pub root_open : IsOpen q (lowest q) (lowest q)
   root_open =
       let right = lowest_right p q shape in
       let left = lowest_left p q shape in

@@ -12,3 +12,5 @@ pub mod Over
 pub mod CornerConditions
 pub mod TableCondition
 pub mod SideConditions
+pub mod ChildConditions
+pub mod Accepted

@@ -1,11 +1,22 @@
-use Rattle.std.proofs.Common.{◌≡◌, ℕ, suc, ◌+◌, List, [], ◌∷◌, ◌++◌, ap, ap₂, sym, ◌∙◌, arith}
-use Rattle.std.proofs.lemmas.List.{get_or_read}
+use Rattle.std.proofs.Common.{◌≡◌, ℕ, suc, ◌+◌, ◌<◌, List, [], ◌∷◌, ◌++◌, length, get_or, ap, ap₂, sym, ◌∙◌, arith}
+use Rattle.std.proofs.lemmas.List.{get_or_read, get_or_default}
 use Rattle.tree_model.specs.Automata.{TreeState}
 use Rattle.regular_maker.specs.Corners.{listed}
 use Rattle.regular_maker.specs.States.{first_pair}
 use Rattle.regular_maker.specs.Automaton.{root_state, nth_state, state_of, pair_at}
+use Rattle.regular_maker.specs.declared.symbol.Pair.{Pair}
 use Rattle.regular_maker.proofs.states.states_of.Goals as goal
 
 pub loop-n-preserved : goal.loop-n-preserved
-unfolding nth_state
-loop-n-preserved c = ?
+unfolding nth_state pair_at
+loop-n-preserved c =
+    let p = c.args.symbol.p in
+    let q = c.args.symbol.q in
+    let pairs = c.args.pairs.now in
+    let less : c.loop-n.n < length pairs = omega arith in
+    let made = c.in_ok-state_of.ensures in
+    let step : suc c.loop-n.n ≡ c.loop-n.n + 1 = omega arith in
+    let state : c.in_ok-state_of.field-0 ≡ nth_state p q pairs c.loop-n.n = ? in
+    c.in_ok-push.ensures.items
+      ∙ ap₂ (λ (xs : List TreeState) (x : TreeState). xs ++ x ∷ []) c.loop-n.invariant state
+      ∙ ap (λ m. root_state p q ∷ listed (nth_state p q pairs) m) step
