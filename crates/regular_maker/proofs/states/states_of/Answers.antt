@@ -16,7 +16,8 @@ loop-n-preserved c =
     let less : c.loop-n.n < length pairs = omega arith in
     let made = c.in_ok-state_of.ensures in
     let step : suc c.loop-n.n ≡ c.loop-n.n + 1 = omega arith in
-    let state : c.in_ok-state_of.field-0 ≡ nth_state p q pairs c.loop-n.n = ? in
+    let state : c.in_ok-state_of.field-0 ≡ nth_state p q pairs c.loop-n.n
+      = made ∙ ap (state_of p q pairs) (get_or_default pairs c.loop-n.n _ (first_pair q) less) in
     c.in_ok-push.ensures.items
       ∙ ap₂ (λ (xs : List TreeState) (x : TreeState). xs ++ x ∷ []) c.loop-n.invariant state
       ∙ ap (λ m. root_state p q ∷ listed (nth_state p q pairs) m) step
