@@ -4,7 +4,7 @@ use Rattle.tile_model.specs.Tessellations.{TileKind}
 use Rattle.tile_model.specs.Validity.{IsValid}
 use Rattle.tree_model.specs.Conditions.{IsAccepted}
 use Rattle.regular_maker.specs.Corners.{parity}
-use Rattle.regular_maker.specs.Regular.{IsRegular, IsInfinite, sides_of, tiles_at}
+use Rattle.regular_maker.specs.Regular.{IsRegular, IsInfinite, p_of, q_of}
 use Rattle.regular_maker.specs.Automaton.{regular_automaton}
 use Rattle.regular_maker.proofs.Shapes.{IsShape, shape_of}
 use Rattle.regular_maker.proofs.Tables.{corner_count}
@@ -30,8 +30,8 @@ all_conditions p q shape kinds over = record {
     c12 = λ g h. greater_outer p q shape g (omega (arith, h, corner_count p q));
   }
 
-pub accepted : (kinds : List TileKind) → IsValid kinds → IsRegular kinds → IsInfinite (sides_of kinds) (tiles_at kinds)
-    → IsAccepted kinds (regular_automaton (sides_of kinds) (tiles_at kinds))
+pub accepted : (kinds : List TileKind) → IsValid kinds → IsRegular kinds → IsInfinite (p_of kinds) (q_of kinds)
+    → IsAccepted kinds (regular_automaton (p_of kinds) (q_of kinds))
 accepted kinds valid regular infinite =
-    all_conditions (sides_of kinds) (tiles_at kinds) (shape_of (sides_of kinds) (tiles_at kinds) (symbol_of kinds valid regular infinite))
+    all_conditions (p_of kinds) (q_of kinds) (shape_of (p_of kinds) (q_of kinds) (symbol_of kinds valid regular infinite))
       kinds (over_of kinds valid regular)

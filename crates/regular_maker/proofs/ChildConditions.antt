@@ -7,7 +7,7 @@ use Rattle.tree_model.specs.Automata.{TreeAutomaton, rule_at, claim_at, offset, 
 use Rattle.tree_model.specs.Conditions.{HasChildClaims, KeepsClaims}
 use Rattle.regular_maker.specs.Corners.{half, parity, depth_at}
 use Rattle.regular_maker.specs.Pairs.{IsPair}
-use Rattle.regular_maker.specs.States.{lowest, nearer, rights, lefts, claim_of, between, child_pair, first_pair}
+use Rattle.regular_maker.specs.States.{lowest, nearer, rights, lefts, pair_claim, pair_between, child_pair, first_pair}
 use Rattle.regular_maker.specs.Automaton.{index_in, pair_at, all_pairs, regular_automaton}
 use Rattle.regular_maker.specs.declared.symbol.Pair.{Pair}
 use Rattle.regular_maker.proofs.Shapes.{IsShape}
@@ -76,11 +76,11 @@ module _ (p q : ℕ) (shape : IsShape p q) where
         (subst (λ (z : Claim). AreNested d' z f l) (sym b)
           (subst (λ (z : Claim). AreNested d' e' z l) (sym g) (subst (λ (z : Claim). AreNested d' e' f' z) (sym h) n)))
 
-  first_of_child : (n j c : ℕ) → HasEnds c (child_pair p q (pair p q shape n) j) → claim_at A c 0 ≡ further (claim_of p q (pair p q shape n) (j - 1))
+  first_of_child : (n j c : ℕ) → HasEnds c (child_pair p q (pair p q shape n) j) → claim_at A c 0 ≡ further (pair_claim p q (pair p q shape n) (j - 1))
   unfolding child_pair
   first_of_child n j c there = there.first
 
-  last_of_child : (n j c : ℕ) → HasEnds c (child_pair p q (pair p q shape n) j) → claim_at A c (p - 1) ≡ nearer (claim_of p q (pair p q shape n) j)
+  last_of_child : (n j c : ℕ) → HasEnds c (child_pair p q (pair p q shape n) j) → claim_at A c (p - 1) ≡ nearer (pair_claim p q (pair p q shape n) j)
   unfolding child_pair
   last_of_child n j c there = there.last
 
@@ -91,12 +91,12 @@ module _ (p q : ℕ) (shape : IsShape p q) where
       let child = child_of p q shape n j c less side e in
       let there = child_ends n j c child in
       let some : 1 ≤ j = omega (arith, child.behind) in
-      let before : claim_at A (suc n) (previous p j) ≡ claim_of p q x (j - 1)
+      let before : claim_at A (suc n) (previous p j) ≡ pair_claim p q x (j - 1)
         = ap (claim_at A (suc n)) (previous_is p j some) ∙ state_claim p q n (j - 1) less (omega (arith, side)) in
       four (claim_at A (suc n) (previous p j)) (claim_at A (suc n) j) (claim_at A c 0) (claim_at A c (p - 1))
-        (claim_of p q x (j - 1)) (claim_of p q x j) (further (claim_of p q x (j - 1))) (nearer (claim_of p q x j))
+        (pair_claim p q x (j - 1)) (pair_claim p q x j) (further (pair_claim p q x (j - 1))) (nearer (pair_claim p q x j))
         before (state_claim p q n j less side) (first_of_child n j c there) (last_of_child n j c there)
-        (nested (claim_of p q x (j - 1)) (claim_of p q x j) (child_open p q shape x (pair_is p q shape n less) j child.behind child.before))
+        (nested (pair_claim p q x (j - 1)) (pair_claim p q x j) (child_open p q shape x (pair_is p q shape n less) j child.behind child.before))
 
   claims_kept : (s i c : ℕ) → s < length A.states → i < p → rule_at A s i ≡ Child c
       → AreNested (claim_at A s (previous p i)) (claim_at A s i) (claim_at A c 0) (claim_at A c (p - 1))

@@ -6,7 +6,7 @@ use Rattle.std.proofs.lemmas.Bool.{cases_lt, cases_eq, le-leb, lt-leb}
 use Rattle.tree_model.specs.declared.Claim.{Claim}
 use Rattle.tree_model.specs.Automata.{further}
 use Rattle.regular_maker.specs.Corners.{half, parity, outer_of, depth_at}
-use Rattle.regular_maker.specs.States.{lowest, beyond, nearer, right_claim, right_run, left_claim, left_run, rights, lefts, claim_of, between, child_pair, first_pair}
+use Rattle.regular_maker.specs.States.{lowest, beyond, nearer, right_claim, right_run, left_claim, left_run, rights, lefts, pair_claim, pair_between, child_pair, first_pair}
 use Rattle.regular_maker.specs.Pairs.{IsPair, IsBehind, IsAhead, AreNear}
 use Rattle.regular_maker.specs.declared.symbol.Pair.{Pair}
 use Rattle.regular_maker.proofs.Shapes.{IsShape, IsRight, IsLeft, right_of, left_of, half_least, lowest_right, lowest_left, right_not_first, left_not_last}
@@ -63,7 +63,7 @@ module _ (p q : ℕ) (shape : IsShape p q) where
   }
 
 module _ (p q : ℕ) (shape : IsShape p q) (x : Pair) (pair : IsPair p q x) where
-  pub child_open : (i : ℕ) → rights p q x < i → i + lefts p q x < p → IsOpen q (claim_of p q x (i - 1)) (claim_of p q x i)
+  pub child_open : (i : ℕ) → rights p q x < i → i + lefts p q x < p → IsOpen q (pair_claim p q x (i - 1)) (pair_claim p q x i)
   child_open i h g =
       let before = told p q shape x pair (i - 1) (omega (arith, g)) in
       let this = told p q shape x pair i (omega (arith, g)) in
@@ -103,7 +103,7 @@ module _ (p q : ℕ) (shape : IsShape p q) (x : Pair) (pair : IsPair p q x) wher
       inr (inr (omega (arith, h), omega (arith, six, shape.halves, shape.parity, ap (λ (b : Claim). b.place) e)))
 
   triangle : (i : ℕ) → p ≡ 3 → 6 ≤ q → rights p q x < i → i + lefts p q x < p
-      → AreNear q (further (claim_of p q x (i - 1))) (nearer (claim_of p q x i))
+      → AreNear q (further (pair_claim p q x (i - 1))) (nearer (pair_claim p q x i))
   unfolding right_claim left_claim lefts
   triangle i three six h g =
       let apart = runs_apart p q shape x pair in
@@ -111,25 +111,25 @@ module _ (p q : ℕ) (shape : IsShape p q) (x : Pair) (pair : IsPair p q x) wher
     where
       go : 2 + (rights p q x + lefts p q x) ≤ p
           → (0 < rights p q x) ⊎ (rights p q x ≤ 0) → (0 < lefts p q x) ⊎ (lefts p q x ≤ 0) → (1 < i) ⊎ (i ≤ 1)
-          → AreNear q (further (claim_of p q x (i - 1))) (nearer (claim_of p q x i))
+          → AreNear q (further (pair_claim p q x (i - 1))) (nearer (pair_claim p q x i))
       go apart (inl some) _ _ =
           let e : i - 1 ≡ 1 = omega (arith, apart, some, three, h, g) in
-          let at : claim_of p q x (i - 1) ≡ right_claim q x.first (i - 1) = claim_right p q x (i - 1) (omega (arith, e, some)) in
-          after_right (claim_of p q x (i - 1)) (nearer (claim_of p q x i)) x.first.corner (at ∙ ap (right_claim q x.first) e)
+          let at : pair_claim p q x (i - 1) ≡ right_claim q x.first (i - 1) = claim_right p q x (i - 1) (omega (arith, e, some)) in
+          after_right (pair_claim p q x (i - 1)) (nearer (pair_claim p q x i)) x.first.corner (at ∙ ap (right_claim q x.first) e)
       go apart (inr none) (inl some) _ =
           let e : p - 1 - i ≡ 1 = omega (arith, apart, some, three, h, g, none) in
           let f : i - 1 ≡ 0 = omega (arith, e, three) in
-          let at : claim_of p q x i ≡ left_claim q x.last (p - 1 - i) = claim_left p q x i h (omega (arith, e, some, three)) in
-          let start : claim_of p q x (i - 1) ≡ right_claim q x.first (i - 1) = claim_right p q x (i - 1) (omega (arith, f)) in
-          let first : claim_of p q x (i - 1) ≡ x.first = start ∙ ap (right_claim q x.first) f in
+          let at : pair_claim p q x i ≡ left_claim q x.last (p - 1 - i) = claim_left p q x i h (omega (arith, e, some, three)) in
+          let start : pair_claim p q x (i - 1) ≡ right_claim q x.first (i - 1) = claim_right p q x (i - 1) (omega (arith, f)) in
+          let first : pair_claim p q x (i - 1) ≡ x.first = start ∙ ap (right_claim q x.first) f in
           let low = next_to_lowest six (left_first q (p - 1) x.last 0 some) pair.apart three in
-          subst (λ (c : Claim). AreNear q (further c) (nearer (claim_of p q x i))) (sym first)
-            (before_left (claim_of p q x i) x.last.corner six low (at ∙ ap (left_claim q x.last) e))
+          subst (λ (c : Claim). AreNear q (further c) (nearer (pair_claim p q x i))) (sym first)
+            (before_left (pair_claim p q x i) x.last.corner six low (at ∙ ap (left_claim q x.last) e))
       go apart (inr none) (inr no_left) (inl second) =
-          after_lowest (claim_of p q x (i - 1)) (nearer (claim_of p q x i))
+          after_lowest (pair_claim p q x (i - 1)) (nearer (pair_claim p q x i))
             (claim_middle p q x (i - 1) (omega (arith, none, second)) (omega (arith, no_left, three, g, second)))
       go apart (inr none) (inr no_left) (inr first) =
-          before_lowest (further (claim_of p q x (i - 1))) (claim_of p q x i)
+          before_lowest (further (pair_claim p q x (i - 1))) (pair_claim p q x i)
             (claim_middle p q x i h (omega (arith, no_left, three, first)))
 
   pub child_is_pair : (i : ℕ) → rights p q x < i → i + lefts p q x < p → IsPair p q (child_pair p q x i)
@@ -137,8 +137,8 @@ module _ (p q : ℕ) (shape : IsShape p q) (x : Pair) (pair : IsPair p q x) wher
   child_is_pair i h g =
       let open_side = child_open i h g in
       record {
-        first = further_behind q (claim_of p q x (i - 1)) (claim_of p q x i) open_side;
-        last = nearer_ahead q (claim_of p q x (i - 1)) (claim_of p q x i) open_side;
+        first = further_behind q (pair_claim p q x (i - 1)) (pair_claim p q x i) open_side;
+        last = nearer_ahead q (pair_claim p q x (i - 1)) (pair_claim p q x i) open_side;
         apart = elim shape.cases [
             inl few ↦ inr (triangle i few.0 few.1 h g)
           | inr (inl three) ↦ inl (omega (arith, three.1))

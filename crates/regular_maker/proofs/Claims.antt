@@ -4,7 +4,7 @@ use Rattle.std.specs.Prelude.{nat_le, if◌then◌else◌}
 use Rattle.std.proofs.lemmas.Bool.{cases_lt, cases_eq, le-leb, lt-leb}
 use Rattle.tree_model.specs.declared.Claim.{Claim}
 use Rattle.regular_maker.specs.Corners.{half, parity, outer_of}
-use Rattle.regular_maker.specs.States.{lowest, beyond, right_claim, right_run, left_claim, left_run, rights, lefts, claim_of}
+use Rattle.regular_maker.specs.States.{lowest, beyond, right_claim, right_run, left_claim, left_run, rights, lefts, pair_claim}
 use Rattle.regular_maker.specs.Pairs.{IsPair}
 use Rattle.regular_maker.specs.declared.symbol.Pair.{Pair}
 use Rattle.regular_maker.proofs.Shapes.{IsShape, IsRight, IsLeft, right_of, left_of, half_least, lowest_right, lowest_left, right_not_first, left_not_last}
@@ -12,16 +12,16 @@ use Rattle.regular_maker.proofs.Runs.{right_last, right_ends, left_first, left_s
 
 module _ (p q : ℕ) where
   -- a claim within the run of Right sides, within that of Left sides, and between them
-  pub claim_right : (x : Pair) (i : ℕ) → i ≤ rights p q x → claim_of p q x i ≡ right_claim q x.first i
-  unfolding claim_of
+  pub claim_right : (x : Pair) (i : ℕ) → i ≤ rights p q x → pair_claim p q x i ≡ right_claim q x.first i
+  unfolding pair_claim
   claim_right x i h = rw (le-leb i (rights p q x) h) refl
 
-  pub claim_left : (x : Pair) (i : ℕ) → rights p q x < i → p - 1 ≤ i + lefts p q x → claim_of p q x i ≡ left_claim q x.last (p - 1 - i)
-  unfolding claim_of
+  pub claim_left : (x : Pair) (i : ℕ) → rights p q x < i → p - 1 ≤ i + lefts p q x → pair_claim p q x i ≡ left_claim q x.last (p - 1 - i)
+  unfolding pair_claim
   claim_left x i h g = rw (lt-leb i (rights p q x) h, le-leb (p - 1) (i + lefts p q x) g) refl
 
-  pub claim_middle : (x : Pair) (i : ℕ) → rights p q x < i → i + lefts p q x < p - 1 → claim_of p q x i ≡ lowest q
-  unfolding claim_of
+  pub claim_middle : (x : Pair) (i : ℕ) → rights p q x < i → i + lefts p q x < p - 1 → pair_claim p q x i ≡ lowest q
+  unfolding pair_claim
   claim_middle x i h g = rw (lt-leb i (rights p q x) h, lt-leb (p - 1) (i + lefts p q x) g) refl
 
 -- What a claim of the state of a pair is, as far as the conditions ask: it is one of a corner, it has the last place exactly where it lies in
@@ -94,39 +94,39 @@ module _ (p q : ℕ) (shape : IsShape p q) (x : Pair) (pair : IsPair p q x) wher
         ahead = λ more. left;
       }
 
-  pub told : (i : ℕ) → i < p → IsTold p q x i (claim_of p q x i)
+  pub told : (i : ℕ) → i < p → IsTold p q x i (pair_claim p q x i)
   told i side = go (cases_lt (rights p q x) i) (cases_lt (i + lefts p q x) (p - 1))
     where
-      go : (rights p q x < i) ⊎ (i ≤ rights p q x) → (i + lefts p q x < p - 1) ⊎ (p - 1 ≤ i + lefts p q x) → IsTold p q x i (claim_of p q x i)
+      go : (rights p q x < i) ⊎ (i ≤ rights p q x) → (i + lefts p q x < p - 1) ⊎ (p - 1 ≤ i + lefts p q x) → IsTold p q x i (pair_claim p q x i)
       go (inr h) _ = subst (IsTold p q x i) (sym (claim_right p q x i h)) (told_right i h)
       go (inl h) (inl g) = subst (IsTold p q x i) (sym (claim_middle p q x i h g)) (told_middle i h g)
       go (inl h) (inr g) = subst (IsTold p q x i) (sym (claim_left p q x i h g)) (told_left i side h g)
 
   -- the claim before a Left side is the outer of the claim behind it
-  pub claim_before_left : (i : ℕ) → 1 ≤ i → i < p → p ≤ i + lefts p q x → claim_of p q x (i - 1) ≡ outer_of q (claim_of p q x i).corner
+  pub claim_before_left : (i : ℕ) → 1 ≤ i → i < p → p ≤ i + lefts p q x → pair_claim p q x (i - 1) ≡ outer_of q (pair_claim p q x i).corner
   unfolding left_claim
   claim_before_left i some side left =
       let apart = runs_apart p q shape x pair in
       let e : p - 1 - (i - 1) ≡ suc (p - 1 - i) = omega (arith, some, side) in
-      let before : claim_of p q x (i - 1) ≡ left_claim q x.last (p - 1 - (i - 1)) = claim_left p q x (i - 1) (omega (arith, apart, left)) (omega (arith, left, some)) in
-      let this : claim_of p q x i ≡ left_claim q x.last (p - 1 - i) = claim_left p q x i (omega (arith, apart, left)) (omega (arith, left)) in
+      let before : pair_claim p q x (i - 1) ≡ left_claim q x.last (p - 1 - (i - 1)) = claim_left p q x (i - 1) (omega (arith, apart, left)) (omega (arith, left, some)) in
+      let this : pair_claim p q x i ≡ left_claim q x.last (p - 1 - i) = claim_left p q x i (omega (arith, apart, left)) (omega (arith, left)) in
       before ∙ ap (left_claim q x.last) e ∙ ap (λ (c : Claim). outer_of q c.corner) (sym this)
 
   -- the claim behind a Right side is further than the outer of the claim before it
-  pub claim_behind_right : (i : ℕ) → 1 ≤ i → i ≤ rights p q x → claim_of p q x i ≡ beyond q (claim_of p q x (i - 1)).corner
+  pub claim_behind_right : (i : ℕ) → 1 ≤ i → i ≤ rights p q x → pair_claim p q x i ≡ beyond q (pair_claim p q x (i - 1)).corner
   unfolding right_claim
   claim_behind_right i some right =
       let e : i ≡ suc (i - 1) = omega (arith, some) in
-      let this : claim_of p q x i ≡ right_claim q x.first i = claim_right p q x i right in
-      let before : claim_of p q x (i - 1) ≡ right_claim q x.first (i - 1) = claim_right p q x (i - 1) (omega (arith, right)) in
+      let this : pair_claim p q x i ≡ right_claim q x.first i = claim_right p q x i right in
+      let before : pair_claim p q x (i - 1) ≡ right_claim q x.first (i - 1) = claim_right p q x (i - 1) (omega (arith, right)) in
       this ∙ ap (right_claim q x.first) e ∙ ap (λ (c : Claim). beyond q c.corner) (sym before)
 
   -- the claims at the two ends are the pair
-  pub claim_at_start : claim_of p q x 0 ≡ x.first
+  pub claim_at_start : pair_claim p q x 0 ≡ x.first
   unfolding right_claim
   claim_at_start = claim_right p q x 0 (omega arith)
 
-  pub claim_at_end : claim_of p q x (p - 1) ≡ x.last
+  pub claim_at_end : pair_claim p q x (p - 1) ≡ x.last
   unfolding left_claim
   claim_at_end =
       let apart = runs_apart p q shape x pair in

@@ -9,8 +9,8 @@ use Rattle.std.proofs.lemmas.Map.Steps.{length-le_from_distinct_below}
 use Rattle.tree_model.specs.declared.Claim.{Claim}
 use Rattle.regular_maker.specs.Corners.{half, parity}
 use Rattle.regular_maker.specs.Pairs.{IsPair}
-use Rattle.regular_maker.specs.States.{rights, lefts, is_child, child_pair, first_pair}
-use Rattle.regular_maker.specs.Automaton.{index_in, with_pair, met_at, pair_at, met, all_pairs}
+use Rattle.regular_maker.specs.States.{rights, lefts, is_child, child_pair, child_pairs, first_pair}
+use Rattle.regular_maker.specs.Automaton.{index_in, with_pair, with_pairs, pair_at, pairs_met, all_pairs}
 use Rattle.regular_maker.specs.declared.symbol.Pair.{Pair}
 use Rattle.regular_maker.proofs.Shapes.{IsShape}
 use Rattle.regular_maker.proofs.Children.{first_is_pair, child_is_pair}
@@ -85,6 +85,12 @@ module _ (q : ℕ) where
         (in_from (xs ++ x ∷ []) x (length xs) (omega (arith, length_push xs x)) (at_push xs x))
     ]
 
+-- one more pair behind those that are added
+pub with_push : (ps xs : List Pair) (x : Pair) → with_pairs ps (xs ++ x ∷ []) ≡ with_pair (with_pairs ps xs) x
+unfolding with_pairs
+with_push ps [] x = refl
+with_push ps (y ∷ xs) x = with_push (with_pair ps y) xs x
+
 module _ (p q : ℕ) where
   push_pairs : (xs : List Pair) (x : Pair) → IsList p q xs → IsPair p q x → (k : ℕ) → (k < length xs) ⊎ (length xs ≤ k)
       → k < length (xs ++ x ∷ []) → IsPair p q (pair_at q (xs ++ x ∷ []) k)
@@ -124,72 +130,77 @@ module _ (p q : ℕ) where
   child_from x i h g =
       and_from (nat_lt (rights p q x) i) (nat_lt (i + lefts p q x) p) (lt-ltb (rights p q x) i h) (lt-ltb (i + lefts p q x) p g)
 
-  at_child : (xs : List Pair) (x : Pair) (i : ℕ) → is_child p q x i ≡ true
-      → met_at p q xs x (suc i) ≡ with_pair (met_at p q xs x i) (child_pair p q x i)
-  unfolding met_at
-  at_child xs x i e = rw e refl
+  -- a list of pairs, and those met at the sides below side n of the state of a pair
+  abbrev pub pairs_met_at : List Pair → Pair → ℕ → List Pair
+  pairs_met_at xs x n = with_pairs xs (child_pairs p q x n)
 
-  at_other : (xs : List Pair) (x : Pair) (i : ℕ) → is_child p q x i ≡ false → met_at p q xs x (suc i) ≡ met_at p q xs x i
-  unfolding met_at
+  at_child : (xs : List Pair) (x : Pair) (i : ℕ) → is_child p q x i ≡ true
+      → pairs_met_at xs x (suc i) ≡ with_pair (pairs_met_at xs x i) (child_pair p q x i)
+  unfolding child_pairs
+  at_child xs x i e = rw e (with_push xs (child_pairs p q x i) (child_pair p q x i))
+
+  at_other : (xs : List Pair) (x : Pair) (i : ℕ) → is_child p q x i ≡ false
+      → pairs_met_at xs x (suc i) ≡ pairs_met_at xs x i
+  unfolding child_pairs
   at_other xs x i e = rw e refl
 
   at_grows_step : (xs : List Pair) (x : Pair) (n : ℕ) → (is_child p q x n ≡ true) ⊎ (is_child p q x n ≡ false)
-      → Grows q (met_at p q xs x n) (met_at p q xs x (suc n))
-  at_grows_step xs x n (inl e) = subst (Grows q (met_at p q xs x n)) (sym (at_child xs x n e)) (with_grows q (met_at p q xs x n) (child_pair p q x n))
-  at_grows_step xs x n (inr e) = subst (Grows q (met_at p q xs x n)) (sym (at_other xs x n e)) (grows_self q (met_at p q xs x n))
+      → Grows q (pairs_met_at xs x n) (pairs_met_at xs x (suc n))
+  at_grows_step xs x n (inl e) = subst (Grows q (pairs_met_at xs x n)) (sym (at_child xs x n e)) (with_grows q (pairs_met_at xs x n) (child_pair p q x n))
+  at_grows_step xs x n (inr e) = subst (Grows q (pairs_met_at xs x n)) (sym (at_other xs x n e)) (grows_self q (pairs_met_at xs x n))
 
-  pub at_grows : (xs : List Pair) (x : Pair) (n : ℕ) → Grows q xs (met_at p q xs x n)
-  unfolding met_at
+  pub at_grows : (xs : List Pair) (x : Pair) (n : ℕ) → Grows q xs (pairs_met_at xs x n)
+  unfolding child_pairs with_pairs
   at_grows xs x zero = grows_self q xs
   at_grows xs x (suc n) = grows_on q (at_grows xs x n) (at_grows_step xs x n (cases_Bool (is_child p q x n)))
 
-  at_in_step : (xs : List Pair) (x : Pair) (n i : ℕ) → (i < n → IsIn (met_at p q xs x n) (child_pair p q x i))
-      → (i < n) ⊎ (n ≤ i) → i < suc n → is_child p q x i ≡ true → IsIn (met_at p q xs x (suc n)) (child_pair p q x i)
+  at_in_step : (xs : List Pair) (x : Pair) (n i : ℕ) → (i < n → IsIn (pairs_met_at xs x n) (child_pair p q x i))
+      → (i < n) ⊎ (n ≤ i) → i < suc n → is_child p q x i ≡ true → IsIn (pairs_met_at xs x (suc n)) (child_pair p q x i)
   at_in_step xs x n i before (inl less) h e =
       in_grows q (at_grows_step xs x n (cases_Bool (is_child p q x n))) (child_pair p q x i) (before less)
   at_in_step xs x n i before (inr more) h e =
       let same : n ≡ i = omega (arith, h, more) in
-      let made : IsIn (met_at p q xs x (suc i)) (child_pair p q x i)
-        = subst (λ (ys : List Pair). IsIn ys (child_pair p q x i)) (sym (at_child xs x i e)) (with_in q (met_at p q xs x i) (child_pair p q x i)) in
-      subst (λ m. IsIn (met_at p q xs x (suc m)) (child_pair p q x i)) (sym same) made
+      let made : IsIn (pairs_met_at xs x (suc i)) (child_pair p q x i)
+        = subst (λ (ys : List Pair). IsIn ys (child_pair p q x i)) (sym (at_child xs x i e)) (with_in q (pairs_met_at xs x i) (child_pair p q x i)) in
+      subst (λ m. IsIn (pairs_met_at xs x (suc m)) (child_pair p q x i)) (sym same) made
 
   -- the pair of each child is met
-  pub at_in : (xs : List Pair) (x : Pair) (n i : ℕ) → i < n → is_child p q x i ≡ true → IsIn (met_at p q xs x n) (child_pair p q x i)
+  pub at_in : (xs : List Pair) (x : Pair) (n i : ℕ) → i < n → is_child p q x i ≡ true → IsIn (pairs_met_at xs x n) (child_pair p q x i)
   at_in xs x zero i h e = absurd (omega arith)
   at_in xs x (suc n) i h e = at_in_step xs x n i (λ less. at_in xs x n i less e) (cases_lt i n) h e
 
 module _ (p q : ℕ) (shape : IsShape p q) where
-  at_list_step : (xs : List Pair) (x : Pair) (n : ℕ) → IsPair p q x → IsList p q (met_at p q xs x n)
-      → (is_child p q x n ≡ true) ⊎ (is_child p q x n ≡ false) → IsList p q (met_at p q xs x (suc n))
+  at_list_step : (xs : List Pair) (x : Pair) (n : ℕ) → IsPair p q x → IsList p q (pairs_met_at p q xs x n)
+      → (is_child p q x n ≡ true) ⊎ (is_child p q x n ≡ false) → IsList p q (pairs_met_at p q xs x (suc n))
   at_list_step xs x n pair before (inl e) =
       let parts = child_parts p q x n e in
       subst (IsList p q) (sym (at_child p q xs x n e))
-        (with_list p q (met_at p q xs x n) (child_pair p q x n) before (child_is_pair p q shape x pair n parts.0 parts.1))
+        (with_list p q (pairs_met_at p q xs x n) (child_pair p q x n) before (child_is_pair p q shape x pair n parts.0 parts.1))
   at_list_step xs x n pair before (inr e) = subst (IsList p q) (sym (at_other p q xs x n e)) before
 
-  pub at_list : (xs : List Pair) (x : Pair) (n : ℕ) → IsPair p q x → IsList p q xs → IsList p q (met_at p q xs x n)
-  unfolding met_at
+  pub at_list : (xs : List Pair) (x : Pair) (n : ℕ) → IsPair p q x → IsList p q xs → IsList p q (pairs_met_at p q xs x n)
+  unfolding child_pairs with_pairs
   at_list xs x zero pair list = list
   at_list xs x (suc n) pair list = at_list_step xs x n pair (at_list xs x n pair list) (cases_Bool (is_child p q x n))
 
-  pub met_more : (n : ℕ) → n < length (met p q n) → met p q (suc n) ≡ met_at p q (met p q n) (pair_at q (met p q n) n) p
-  unfolding met
-  met_more n h = rw (lt-ltb n (length (met p q n)) h) refl
+  pub met_more : (n : ℕ) → n < length (pairs_met p q n) → pairs_met p q (suc n) ≡ pairs_met_at p q (pairs_met p q n) (pair_at q (pairs_met p q n) n) p
+  unfolding pairs_met
+  met_more n h = rw (lt-ltb n (length (pairs_met p q n)) h) refl
 
-  pub met_done : (n : ℕ) → length (met p q n) ≤ n → met p q (suc n) ≡ met p q n
-  unfolding met
-  met_done n h = rw (le-ltb n (length (met p q n)) h) refl
+  pub met_done : (n : ℕ) → length (pairs_met p q n) ≤ n → pairs_met p q (suc n) ≡ pairs_met p q n
+  unfolding pairs_met
+  met_done n h = rw (le-ltb n (length (pairs_met p q n)) h) refl
 
-  met_grows_step : (n : ℕ) → (n < length (met p q n)) ⊎ (length (met p q n) ≤ n) → Grows q (met p q n) (met p q (suc n))
-  met_grows_step n (inl less) = subst (Grows q (met p q n)) (sym (met_more n less)) (at_grows p q (met p q n) (pair_at q (met p q n) n) p)
-  met_grows_step n (inr more) = subst (Grows q (met p q n)) (sym (met_done n more)) (grows_self q (met p q n))
+  met_grows_step : (n : ℕ) → (n < length (pairs_met p q n)) ⊎ (length (pairs_met p q n) ≤ n) → Grows q (pairs_met p q n) (pairs_met p q (suc n))
+  met_grows_step n (inl less) = subst (Grows q (pairs_met p q n)) (sym (met_more n less)) (at_grows p q (pairs_met p q n) (pair_at q (pairs_met p q n) n) p)
+  met_grows_step n (inr more) = subst (Grows q (pairs_met p q n)) (sym (met_done n more)) (grows_self q (pairs_met p q n))
 
-  pub met_grows : (n k : ℕ) → Grows q (met p q n) (met p q (k + n))
-  met_grows n zero = let e : n ≡ 0 + n = omega arith in subst (λ m. Grows q (met p q n) (met p q m)) e (grows_self q (met p q n))
+  pub met_grows : (n k : ℕ) → Grows q (pairs_met p q n) (pairs_met p q (k + n))
+  met_grows n zero = let e : n ≡ 0 + n = omega arith in subst (λ m. Grows q (pairs_met p q n) (pairs_met p q m)) e (grows_self q (pairs_met p q n))
   met_grows n (suc k) =
       let e : suc (k + n) ≡ suc k + n = omega arith in
-      subst (λ m. Grows q (met p q n) (met p q m)) e
-        (grows_on q (met_grows n k) (met_grows_step (k + n) (cases_lt (k + n) (length (met p q (k + n))))))
+      subst (λ m. Grows q (pairs_met p q n) (pairs_met p q m)) e
+        (grows_on q (met_grows n k) (met_grows_step (k + n) (cases_lt (k + n) (length (pairs_met p q (k + n))))))
 
   first_list : IsList p q (first_pair q ∷ [])
   unfolding pair_at
@@ -198,12 +209,12 @@ module _ (p q : ℕ) (shape : IsShape p q) where
     distinct = λ i j h g. absurd (omega arith);
   }
 
-  met_list_step : (n : ℕ) → IsList p q (met p q n) → (n < length (met p q n)) ⊎ (length (met p q n) ≤ n) → IsList p q (met p q (suc n))
+  met_list_step : (n : ℕ) → IsList p q (pairs_met p q n) → (n < length (pairs_met p q n)) ⊎ (length (pairs_met p q n) ≤ n) → IsList p q (pairs_met p q (suc n))
   met_list_step n before (inl less) =
-      subst (IsList p q) (sym (met_more n less)) (at_list (met p q n) (pair_at q (met p q n) n) p (before.pairs n less) before)
+      subst (IsList p q) (sym (met_more n less)) (at_list (pairs_met p q n) (pair_at q (pairs_met p q n) n) p (before.pairs n less) before)
   met_list_step n before (inr more) = subst (IsList p q) (sym (met_done n more)) before
 
-  pub met_list : (n : ℕ) → IsList p q (met p q n)
-  unfolding met
+  pub met_list : (n : ℕ) → IsList p q (pairs_met p q n)
+  unfolding pairs_met
   met_list zero = first_list
-  met_list (suc n) = met_list_step n (met_list n) (cases_lt n (length (met p q n)))
+  met_list (suc n) = met_list_step n (met_list n) (cases_lt n (length (pairs_met p q n)))

@@ -5,8 +5,7 @@ use Rattle.std.specs.Prelude.{nat_eq, nat_lt, ◌&&◌, if◌then◌else◌}
 use Rattle.std.proofs.lemmas.Bool.{cases_lt, cases_Bool, lt-ltb, le-ltb, ltb-true, ltb-false, eqb-true, eq-eqb, and_parts, and_from}
 use Rattle.std.proofs.lemmas.List.{get_or_append_left, get_or_push, length_push, get_or_default}
 use Rattle.tree_model.specs.declared.Claim.{Claim}
-use Rattle.regular_maker.specs.States.{rights, lefts, is_child, child_pair, first_pair}
-use Rattle.regular_maker.specs.Automaton.{same_claim, same_pair, index_in, with_pair, met_at, pair_at, met, all_pairs}
+use Rattle.regular_maker.specs.Automaton.{same_claim, same_pair, index_in}
 use Rattle.regular_maker.specs.declared.symbol.Pair.{Pair}
 
 same_claim_true : (c d : Claim) → same_claim c d ≡ true → c ≡ d

@@ -3,7 +3,7 @@ use Rattle.std.proofs.Common.{◌≡◌, ◌≢◌, ℕ, zero, suc, ◌+◌, ◌
 use Rattle.tile_model.specs.Tessellations.{TileKind, kind_at, cross, valence, IsType}
 use Rattle.tile_model.specs.Validity.{IsValid}
 use Rattle.tree_model.specs.Automata.{TreeAutomaton, state_at, side_count, type_at, next, previous}
-use Rattle.regular_maker.specs.Regular.{IsRegular, IsInfinite, IsSymbol, sides_of, tiles_at}
+use Rattle.regular_maker.specs.Regular.{IsRegular, IsInfinite, IsSymbol, p_of, q_of}
 use Rattle.regular_maker.specs.Automaton.{regular_automaton}
 use Rattle.regular_maker.proofs.Tables.{IsPlain, plain}
 
@@ -19,7 +19,7 @@ module _ (kinds : List TileKind) (valid : IsValid kinds) (regular : IsRegular ki
   the_type : IsType kinds (0, 0)
   the_type = (omega (arith, regular.one_kind), omega (arith, regular.one_type))
 
-  pub over_of : IsOver (sides_of kinds) (tiles_at kinds) kinds
+  pub over_of : IsOver (p_of kinds) (q_of kinds) kinds
   over_of =
       let partner = valid.partner (0, 0) the_type in
       let kind : (cross kinds (0, 0)).0 ≡ 0 = omega (arith, partner.0, regular.one_kind) in
@@ -33,7 +33,7 @@ module _ (kinds : List TileKind) (valid : IsValid kinds) (regular : IsRegular ki
         tiles = refl;
       }
 
-  pub symbol_of : IsInfinite (sides_of kinds) (tiles_at kinds) → IsSymbol (sides_of kinds) (tiles_at kinds)
+  pub symbol_of : IsInfinite (p_of kinds) (q_of kinds) → IsSymbol (p_of kinds) (q_of kinds)
   symbol_of infinite = record {
     sides = valid.sides 0 (omega (arith, regular.one_kind));
     tiles = valid.valence (0, 0) the_type;

@@ -10,8 +10,8 @@ use Rattle.tree_model.specs.Automata.{TreeAutomaton, state_at, root_at, rule_at,
 use Rattle.tree_model.specs.Conditions.{IsRoot, HasParentRule, HasChildType, HasClaimValence, HasFirstPlace, HasLastPlace, HasOuterBefore, HasOuterBehind}
 use Rattle.regular_maker.specs.Corners.{parity, outer_of}
 use Rattle.regular_maker.specs.Pairs.{IsPair}
-use Rattle.regular_maker.specs.States.{lowest, beyond, rights, lefts, claim_of, child_pair}
-use Rattle.regular_maker.specs.Automaton.{index_in, rule_of, pair_at, all_pairs, regular_automaton}
+use Rattle.regular_maker.specs.States.{lowest, beyond, rights, lefts, pair_claim, child_pair}
+use Rattle.regular_maker.specs.Automaton.{index_in, pair_rule, pair_at, all_pairs, regular_automaton}
 use Rattle.regular_maker.specs.declared.symbol.Pair.{Pair}
 use Rattle.regular_maker.proofs.Shapes.{IsShape, lowest_right, lowest_left, right_not_first, left_not_last}
 use Rattle.regular_maker.proofs.Runs.{runs_apart}
@@ -32,14 +32,14 @@ module _ (p q : ℕ) (shape : IsShape p q) where
   parent_at zero i h side e = absurd (cc (root_rule p q i side))
   parent_at (suc k) i h side e =
       let less : k < length (all_pairs p q) = omega (arith, h, state_count p q) in
-      (ruled_parent p q (all_pairs p q) (pair p q shape k) i (rule_of p q (all_pairs p q) (pair p q shape k) i)
+      (ruled_parent p q (all_pairs p q) (pair p q shape k) i (pair_rule p q (all_pairs p q) (pair p q shape k) i)
         (ruled p q (all_pairs p q) (pair p q shape k) i) (sym (state_rule p q k i less side) ∙ e), omega arith)
 
   at_parent : (s i : ℕ) → s < length A.states → i < p → i ≡ 0 → s ≢ 0 → rule_at A s i ≡ Parent
   at_parent zero i h side z other = absurd (other refl)
   at_parent (suc k) i h side z other =
       let less : k < length (all_pairs p q) = omega (arith, h, state_count p q) in
-      state_rule p q k i less side ∙ parent_ruled p q (all_pairs p q) (pair p q shape k) i (rule_of p q (all_pairs p q) (pair p q shape k) i)
+      state_rule p q k i less side ∙ parent_ruled p q (all_pairs p q) (pair p q shape k) i (pair_rule p q (all_pairs p q) (pair p q shape k) i)
         (ruled p q (all_pairs p q) (pair p q shape k) i) z
 
   first_place : (s i : ℕ) → s < length A.states → i < p → HasFirstPlace A s i
@@ -57,9 +57,9 @@ module _ (p q : ℕ) (shape : IsShape p q) where
       let apart = runs_apart p q shape x (pair_is p q shape k less) in
       (λ z. elim (cases_lt (i + lefts p q x) p) [
           inl before ↦ absurd (this.not_first before (sym place ∙ z))
-        | inr left ↦ rule ∙ left_ruled p q (all_pairs p q) x i (rule_of p q (all_pairs p q) x i) known (omega (arith, apart, left)) left
+        | inr left ↦ rule ∙ left_ruled p q (all_pairs p q) x i (pair_rule p q (all_pairs p q) x i) known (omega (arith, apart, left)) left
         ],
-       λ e. place ∙ this.first (ruled_left p q (all_pairs p q) x i (rule_of p q (all_pairs p q) x i) known (sym rule ∙ e)).1)
+       λ e. place ∙ this.first (ruled_left p q (all_pairs p q) x i (pair_rule p q (all_pairs p q) x i) known (sym rule ∙ e)).1)
 
   -- the place is the last one exactly where the side behind the claim is Right
   last_place : (s i j : ℕ) → s < length A.states → i < p → j < p → ((j ≡ suc i) ⊎ ((j ≡ 0) × (suc i ≡ p)))
@@ -79,11 +79,11 @@ module _ (p q : ℕ) (shape : IsShape p q) where
       (λ z. elim (cases_lt i (rights p q x)) [
           inl inner ↦
             let behind : j ≡ suc i = behind_is j next_to (omega (arith, apart, inner)) in
-            rule ∙ right_ruled p q (all_pairs p q) x j (rule_of p q (all_pairs p q) x j) known (omega (arith, behind)) (omega (arith, behind, inner))
+            rule ∙ right_ruled p q (all_pairs p q) x j (pair_rule p q (all_pairs p q) x j) known (omega (arith, behind)) (omega (arith, behind, inner))
         | inr ended ↦ absurd (this.not_last ended (sym place ∙ z))
         ],
        λ e.
-        let parts = ruled_right p q (all_pairs p q) x j (rule_of p q (all_pairs p q) x j) known (sym rule ∙ e) in
+        let parts = ruled_right p q (all_pairs p q) x j (pair_rule p q (all_pairs p q) x j) known (sym rule ∙ e) in
         let behind : j ≡ suc i = after_is j next_to parts.0 in
         place ∙ this.last (omega (arith, parts.1, behind)))
     where
@@ -99,11 +99,11 @@ module _ (p q : ℕ) (shape : IsShape p q) where
   outer_before (suc k) i h side e =
       let less : k < length (all_pairs p q) = omega (arith, h, state_count p q) in
       let x = pair p q shape k in
-      let known = ruled_left p q (all_pairs p q) x i (rule_of p q (all_pairs p q) x i) (ruled p q (all_pairs p q) x i) (sym (state_rule p q k i less side) ∙ e) in
+      let known = ruled_left p q (all_pairs p q) x i (pair_rule p q (all_pairs p q) x i) (ruled p q (all_pairs p q) x i) (sym (state_rule p q k i less side) ∙ e) in
       let before = claim_before_left p q shape x (pair_is p q shape k less) i known.0 side known.1 in
-      let there : claim_at A (suc k) (previous p i) ≡ claim_of p q x (i - 1)
+      let there : claim_at A (suc k) (previous p i) ≡ pair_claim p q x (i - 1)
         = ap (claim_at A (suc k)) (previous_is p i known.0) ∙ state_claim p q k (i - 1) less (omega (arith, side)) in
-      let corner : (claim_of p q x i).corner ≡ (claim_at A (suc k) i).corner = ap (λ (c : Claim). c.corner) (sym (state_claim p q k i less side)) in
+      let corner : (pair_claim p q x i).corner ≡ (claim_at A (suc k) i).corner = ap (λ (c : Claim). c.corner) (sym (state_claim p q k i less side)) in
       there ∙ before ∙ ap (outer_of q) corner ∙ sym (outer_is p q (claim_at A (suc k) i).corner (placed p q shape (suc k) i h side).corner)
 
   outer_behind : (s i : ℕ) → s < length A.states → i < p → rule_at A s i ≡ Right → claim_at A s i ≡ further (outer A (claim_at A s (previous p i)).corner)
@@ -112,11 +112,11 @@ module _ (p q : ℕ) (shape : IsShape p q) where
   outer_behind (suc k) i h side e =
       let less : k < length (all_pairs p q) = omega (arith, h, state_count p q) in
       let x = pair p q shape k in
-      let known = ruled_right p q (all_pairs p q) x i (rule_of p q (all_pairs p q) x i) (ruled p q (all_pairs p q) x i) (sym (state_rule p q k i less side) ∙ e) in
+      let known = ruled_right p q (all_pairs p q) x i (pair_rule p q (all_pairs p q) x i) (ruled p q (all_pairs p q) x i) (sym (state_rule p q k i less side) ∙ e) in
       let behind = claim_behind_right p q shape x (pair_is p q shape k less) i known.0 known.1 in
-      let there : claim_at A (suc k) (previous p i) ≡ claim_of p q x (i - 1)
+      let there : claim_at A (suc k) (previous p i) ≡ pair_claim p q x (i - 1)
         = ap (claim_at A (suc k)) (previous_is p i known.0) ∙ state_claim p q k (i - 1) less (omega (arith, side)) in
-      let corner : (claim_of p q x (i - 1)).corner ≡ (claim_at A (suc k) (previous p i)).corner = ap (λ (c : Claim). c.corner) (sym there) in
+      let corner : (pair_claim p q x (i - 1)).corner ≡ (claim_at A (suc k) (previous p i)).corner = ap (λ (c : Claim). c.corner) (sym there) in
       let outer_at = outer_is p q (claim_at A (suc k) (previous p i)).corner (placed p q shape (suc k) (previous p i) h (previous_less p i side)).corner in
       state_claim p q k i less side ∙ behind ∙ ap (λ g. further (outer_of q g)) corner ∙ ap further (sym outer_at)
 

@@ -8,8 +8,8 @@ use Rattle.tree_model.specs.Automata.{TreeAutomaton, state_at, root_at, rule_at,
 use Rattle.tree_model.specs.Conditions.{HasLimits, HasRootState, HasTables, HasTargets, IsClosedTable}
 use Rattle.regular_maker.specs.Corners.{parity}
 use Rattle.regular_maker.specs.Pairs.{IsPair}
-use Rattle.regular_maker.specs.States.{lowest, rights, lefts, claim_of, child_pair}
-use Rattle.regular_maker.specs.Automaton.{index_in, number_of, rule_of, pair_at, all_pairs, regular_automaton}
+use Rattle.regular_maker.specs.States.{lowest, rights, lefts, pair_claim, child_pair}
+use Rattle.regular_maker.specs.Automaton.{index_in, number_of, pair_rule, pair_at, all_pairs, regular_automaton}
 use Rattle.regular_maker.specs.declared.symbol.Pair.{Pair}
 use Rattle.regular_maker.proofs.Shapes.{IsShape, lowest_right}
 use Rattle.regular_maker.proofs.Claims.{told}
@@ -40,7 +40,7 @@ module _ (p q : ℕ) (shape : IsShape p q) where
   unfolding number_of
   child_of k i c h side e =
       let x = pair k in
-      let parts = ruled_child p q (all_pairs p q) x i c (rule_of p q (all_pairs p q) x i) (ruled p q (all_pairs p q) x i) (sym (state_rule p q k i h side) ∙ e) in
+      let parts = ruled_child p q (all_pairs p q) x i c (pair_rule p q (all_pairs p q) x i) (ruled p q (all_pairs p q) x i) (sym (state_rule p q k i h side) ∙ e) in
       record {
         behind = parts.0;
         before = parts.1;

@@ -9,8 +9,8 @@ use Rattle.tree_model.specs.declared.Claim.{Claim}
 use Rattle.tree_model.specs.Automata.{TreeState, TreeAutomaton, CornerType, no_state, no_corner, no_claim, state_at, corner_at, root_at, rule_at, claim_at, offset, corner_valence, outer, rank}
 use Rattle.tree_model.specs.Conditions.{IsRoot}
 use Rattle.regular_maker.specs.Corners.{half, parity, listed, depth_at, outer_of, corner_type, corner_types}
-use Rattle.regular_maker.specs.States.{lowest, rights, lefts, claim_of, child_pair}
-use Rattle.regular_maker.specs.Automaton.{number_of, rule_of, root_state, state_of, nth_state, states_of, pair_at, all_pairs, regular_automaton}
+use Rattle.regular_maker.specs.States.{lowest, rights, lefts, pair_claim, child_pair}
+use Rattle.regular_maker.specs.Automaton.{number_of, pair_rule, root_state, pair_state, nth_state, all_states, pair_at, all_pairs, regular_automaton}
 use Rattle.regular_maker.specs.declared.symbol.Pair.{Pair}
 use Rattle.regular_maker.proofs.Listed.{length-listed, listed_at}
 
@@ -26,15 +26,15 @@ module _ (p q : ℕ) where
   pair k = pair_at q (all_pairs p q) k
 
   pub state_count : length A.states ≡ suc (length pairs)
-  unfolding states_of
+  unfolding all_states
   state_count = ap suc (length-listed (nth_state p q pairs) (length pairs))
 
   pub root_is : state_at A 0 ≡ root_state p q
-  unfolding state_at states_of
+  unfolding state_at all_states
   root_is = refl
 
-  pub state_is : (k : ℕ) → k < length pairs → state_at A (suc k) ≡ state_of p q pairs (pair k)
-  unfolding state_at states_of nth_state
+  pub state_is : (k : ℕ) → k < length pairs → state_at A (suc k) ≡ pair_state p q pairs (pair k)
+  unfolding state_at all_states nth_state
   state_is k h = listed_at (nth_state p q pairs) (length pairs) k no_state h
 
   pub root_rule : (i : ℕ) → i < p → rule_at A 0 i ≡ Child 1
@@ -45,15 +45,15 @@ module _ (p q : ℕ) where
   unfolding claim_at root_state
   root_claim i h = ap (λ (s : TreeState). slice_index_or s.claims i no_claim) root_is ∙ get_or-replicate p i (lowest q) no_claim h
 
-  pub state_rule : (k i : ℕ) → k < length pairs → i < p → rule_at A (suc k) i ≡ rule_of p q pairs (pair k) i
-  unfolding rule_at state_of
+  pub state_rule : (k i : ℕ) → k < length pairs → i < p → rule_at A (suc k) i ≡ pair_rule p q pairs (pair k) i
+  unfolding rule_at pair_state
   state_rule k i h g =
-      ap (λ (s : TreeState). slice_index_or s.rules i Parent) (state_is k h) ∙ listed_at (rule_of p q pairs (pair k)) p i Parent g
+      ap (λ (s : TreeState). slice_index_or s.rules i Parent) (state_is k h) ∙ listed_at (pair_rule p q pairs (pair k)) p i Parent g
 
-  pub state_claim : (k i : ℕ) → k < length pairs → i < p → claim_at A (suc k) i ≡ claim_of p q (pair k) i
-  unfolding claim_at state_of
+  pub state_claim : (k i : ℕ) → k < length pairs → i < p → claim_at A (suc k) i ≡ pair_claim p q (pair k) i
+  unfolding claim_at pair_state
   state_claim k i h g =
-      ap (λ (s : TreeState). slice_index_or s.claims i no_claim) (state_is k h) ∙ listed_at (claim_of p q (pair k)) p i no_claim g
+      ap (λ (s : TreeState). slice_index_or s.claims i no_claim) (state_is k h) ∙ listed_at (pair_claim p q (pair k)) p i no_claim g
 
   -- every state has kind 0 and residue 0, and p rules and claims
   pub record IsPlain (s : TreeState) : Type 0 where
@@ -66,9 +66,9 @@ module _ (p q : ℕ) where
   unfolding root_state
   root_plain = record { kind = refl; off = refl; rules = length-replicate p (Child 1); claims = length-replicate p (lowest q) }
 
-  state_plain : (x : Pair) → IsPlain (state_of p q pairs x)
-  unfolding state_of
-  state_plain x = record { kind = refl; off = refl; rules = length-listed (rule_of p q pairs x) p; claims = length-listed (claim_of p q x) p }
+  state_plain : (x : Pair) → IsPlain (pair_state p q pairs x)
+  unfolding pair_state
+  state_plain x = record { kind = refl; off = refl; rules = length-listed (pair_rule p q pairs x) p; claims = length-listed (pair_claim p q x) p }
 
   pub plain : (s : ℕ) → s < length A.states → IsPlain (state_at A s)
   plain zero h = subst IsPlain (sym root_is) root_plain
@@ -117,8 +117,8 @@ pub data IsRuled (p q : ℕ) (ps : List Pair) (x : Pair) (i : ℕ) : Rule → Ty
   its_child : rights p q x < i → i + lefts p q x < p → IsRuled p q ps x i (Child (number_of ps (child_pair p q x i)))
 
 module _ (p q : ℕ) (ps : List Pair) (x : Pair) (i : ℕ) where
-  pub ruled : IsRuled p q ps x i (rule_of p q ps x i)
-  unfolding rule_of
+  pub ruled : IsRuled p q ps x i (pair_rule p q ps x i)
+  unfolding pair_rule
   ruled = go (cases_eq i 0) (cases_lt (rights p q x) i) (cases_lt (i + lefts p q x) p)
     where
       go : (i ≡ 0) ⊎ (i ≡ 0 → ⊥) → (rights p q x < i) ⊎ (i ≤ rights p q x) → (i + lefts p q x < p) ⊎ (p ≤ i + lefts p q x)

@@ -4,3 +4,4 @@ pub mod States
 pub mod Pairs
 pub mod Automaton
 pub mod Rules
+pub mod Laws

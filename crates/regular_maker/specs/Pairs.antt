@@ -1,5 +1,5 @@
--- What holds of the pair of each state of {p,q}: the claims lie on the two sides of the lowest tile of their corner, and the run of Right
--- sides ends before that of Left sides begins.
+-- What holds of the pair of each state of {p,q}: the claims lie on the two sides of the lowest tile
+-- of their corner, and the run of Right sides ends before that of Left sides begins.
 use Rattle.std.specs.Prelude.{ℕ, suc, ◌+◌, ◌<◌, ◌≤◌, ◌⊎◌}
 use Rattle.tree_model.specs.declared.Claim.{Claim}
 use Rattle.regular_maker.specs.Corners.{half, parity}

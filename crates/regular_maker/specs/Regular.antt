@@ -1,4 +1,5 @@
--- Regular tessellations {p,q}: one kind of tile, with p sides that are all alike, and q tiles round each corner.
+-- Regular tessellations {p,q}: one kind of tile, with p sides that are all alike, and q tiles round
+-- each corner.
 use Rattle.std.specs.Prelude.{◌≡◌, ℕ, ◌-◌, ◌*◌, ◌<◌, ◌≤◌, List, length}
 use Rattle.tile_model.specs.Tessellations.{TileKind, kind_at, valence}
 
@@ -8,12 +9,12 @@ pub record IsRegular (kinds : List TileKind) : Type 0 where
   pub one_type : (kind_at kinds 0).repeat ≡ 1
 
 -- p of {p,q}: the number of sides of a tile
-abbrev pub sides_of : List TileKind → ℕ
-sides_of kinds = (kind_at kinds 0).sides
+abbrev pub p_of : List TileKind → ℕ
+p_of kinds = (kind_at kinds 0).sides
 
 -- q of {p,q}: the number of tiles round a corner
-abbrev pub tiles_at : List TileKind → ℕ
-tiles_at kinds = valence kinds (0, 0)
+abbrev pub q_of : List TileKind → ℕ
+q_of kinds = valence kinds (0, 0)
 
 -- {p,q} lies in the plane or the hyperbolic plane, and has infinitely many tiles.
 abbrev pub IsInfinite : ℕ → ℕ → Type 0

@@ -2,8 +2,9 @@
 use std::alloc::AllocError;
 use thiserror::Error;
 
-/// Why no rules are made for a tessellation: it is not regular, since it has two or more kinds or a repeat over 1, or it is {p,q} with
-/// (p - 2)(q - 2) below 4 and so has finitely many tiles, or memory ran out.
+/// Why no rules are made for a tessellation: it is not regular, since it has two or more kinds or a
+/// repeat over 1, or it is {p,q} with (p - 2)(q - 2) below 4 and so has finitely many tiles, or
+/// memory ran out.
 #[derive(Clone, Copy, Debug, PartialEq, Eq, Drop, Error)]
 pub enum RegFault {
     #[error("the tessellation is not regular")]

@@ -1,8 +1,10 @@
-//! The rules of every infinite regular tessellation, made from the number of sides of its tiles and the number of tiles at its corners.
+//! The rules of every infinite regular tessellation, made from the number of sides of its tiles and
+//! the number of tiles at its corners.
 #![tactic(auto)]
 
 mod corners;
 mod fault;
+pub mod laws;
 mod maker;
 mod numbering;
 mod states;

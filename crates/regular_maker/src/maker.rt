@@ -3,12 +3,12 @@ ghost use Rattle.std.specs.Prelude.{◌≡◌, ◌↔◌, ℕ, IfOk, IfErr, IsEr
 ghost use Rattle.structure_check.specs.Rules.{AreSound};
 ghost use Rattle.regular_maker.specs.Automaton.{regular_automaton};
 ghost use Rattle.regular_maker.specs.Rules.{AreRegular};
-ghost use Rattle.regular_maker.specs.Regular.{IsRegular, IsInfinite, IsSpherical, IsSymbol, sides_of, tiles_at};
+ghost use Rattle.regular_maker.specs.Regular.{IsRegular, IsInfinite, IsSpherical, IsSymbol, p_of, q_of};
 
 use crate::corners::corner_types;
 use crate::fault::RegFault;
 use crate::numbering::all_pairs;
-use crate::states::states_of;
+use crate::states::all_states;
 use crate::symbol::Symbol;
 use rules_data::Automaton;
 use std::alloc::{AllocError, Global};
@@ -22,25 +22,30 @@ fn automaton(alloc: Global, symbol: Symbol) -> Result<Automaton, AllocError>
 {
     let pairs = all_pairs(alloc, symbol)?;
     Ok(Automaton {
-        states: states_of(alloc, symbol, &pairs)?,
+        states: all_states(alloc, symbol, &pairs)?,
         corners: corner_types(alloc, symbol)?,
         roots: vec![in alloc; 0]?,
         scale: (symbol.q % 2) as u32 + 1,
     })
 }
 
-/// The rules of a regular tessellation {p,q} with infinitely many tiles, that is with (p - 2)(q - 2) of at least 4: a copy of the
-/// tessellation, and the automaton whose states are the pairs of claims at both sides of the parent side, numbered as they are first met.
-/// For each such tessellation they come or memory runs out. NotRegular comes exactly where there are two or more kinds or a repeat over 1,
-/// and Spherical, with p and q, exactly where the tessellation is regular and has finitely many tiles.
+/// The rules of a regular tessellation {p,q} with infinitely many tiles, that is with (p - 2)(q -
+/// 2) of at least 4: a copy of the tessellation, and the automaton whose states are the pairs of
+/// claims at both sides of the parent side, numbered as they are first met. For each such
+/// tessellation they come or memory runs out. NotRegular comes exactly where there are two or more
+/// kinds or a repeat over 1, and Spherical, with p and q, exactly where the tessellation is regular
+/// and has finitely many tiles.
 pub fn regular(alloc: Global, t: &Tessellation) -> Result<Rules, RegFault>
     ensures rules { IfOk result (AreRegular t.now) }
     ensures sound { IfOk result (λ r. AreSound r) }
-    ensures complete { IsRegular t.now → IsInfinite (sides_of t.now) (tiles_at t.now) → IfErr result (λ fault. fault ≡ RegFault.Memory) }
+    ensures complete {
+        IsRegular t.now → IsInfinite (p_of t.now) (q_of t.now)
+            → IfErr result (λ fault. fault ≡ RegFault.Memory)
+    }
     ensures not_regular { IsErrOf result RegFault.NotRegular ↔ (¬ (IsRegular t.now)) }
     ensures spherical {
         (p q : ℕ) → IsErrOf result (RegFault.Spherical p q)
-            ↔ (IsRegular t.now × (p ≡ sides_of t.now) × (q ≡ tiles_at t.now) × IsSpherical p q)
+            ↔ (IsRegular t.now × (p ≡ p_of t.now) × (q ≡ q_of t.now) × IsSpherical p q)
     }
 {
     if t.kinds() != 1 || t.kind(0).repeat != 1 {

@@ -1,6 +1,7 @@
 // The pairs of all states, in the order in which they are first met.
 ghost use Rattle.std.specs.Prelude.{◌≡◌, ◌<◌, ◌≤◌, List, length, All, OnOk, IfOk};
-ghost use Rattle.regular_maker.specs.Automaton.{index_in, with_pair, met_at, all_pairs};
+ghost use Rattle.regular_maker.specs.Automaton.{index_in, with_pair, with_pairs, all_pairs};
+ghost use Rattle.regular_maker.specs.States.{child_pairs};
 ghost use Rattle.regular_maker.specs.Regular.{IsSymbol};
 ghost use Rattle.regular_maker.specs.Pairs.{IsPair};
 
@@ -32,11 +33,18 @@ fn add(pairs: &mut Vec<Pair>, pair: Pair) -> Result<(), AllocError>
 }
 
 /// Adds the pairs of the children of the state of a pair, by increasing side.
-#[tactic(auto, unfolding(crate::specs::Automaton::met_at))]
+#[tactic(
+    auto,
+    using(crate::proofs::Growing::with_push),
+    unfolding(crate::specs::Automaton::with_pairs, crate::specs::States::child_pairs)
+)]
 fn meet(symbol: Symbol, pairs: &mut Vec<Pair>, pair: Pair) -> Result<(), AllocError>
     requires symbol { IsSymbol symbol.p symbol.q }
     requires pair { IsPair symbol.p symbol.q pair }
-    ensures { OnOk result (pairs.new.items ≡ met_at symbol.p symbol.q pairs.old.items pair symbol.p) }
+    ensures {
+        OnOk result (pairs.new.items
+            ≡ with_pairs pairs.old.items (child_pairs symbol.p symbol.q pair symbol.p))
+    }
 {
     for side in 0..symbol.p {
         if symbol.is_child(pair, side) {

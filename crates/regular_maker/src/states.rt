@@ -1,6 +1,6 @@
 // The states of a regular tessellation.
 ghost use Rattle.std.specs.Prelude.{◌≡◌, ◌<◌, ◌≤◌, List, length, All, IfOk};
-ghost use Rattle.regular_maker.specs.Automaton.{rule_of, root_state, state_of, states_of};
+ghost use Rattle.regular_maker.specs.Automaton.{pair_rule, root_state, pair_state, all_states};
 ghost use Rattle.regular_maker.specs.Pairs.{IsPair};
 ghost use Rattle.regular_maker.specs.Regular.{IsSymbol};
 
@@ -10,13 +10,13 @@ use rules_data::{Rule, State};
 use std::alloc::{AllocError, Global};
 
 /// The rule of a side of the state of a pair.
-#[tactic(auto, unfolding(crate::specs::Automaton::rule_of, crate::specs::Automaton::number_of))]
-fn rule_of(symbol: Symbol, pairs: &[Pair], pair: Pair, side: u8) -> Rule
+#[tactic(auto, unfolding(crate::specs::Automaton::pair_rule, crate::specs::Automaton::number_of))]
+fn pair_rule(symbol: Symbol, pairs: &[Pair], pair: Pair, side: u8) -> Rule
     requires symbol { IsSymbol symbol.p symbol.q }
     requires few { length pairs.now ≤ 16384 }
     requires pair { IsPair symbol.p symbol.q pair }
     requires side { side < symbol.p }
-    ensures { result ≡ rule_of symbol.p symbol.q pairs.now pair side }
+    ensures { result ≡ pair_rule symbol.p symbol.q pairs.now pair side }
 {
     if side == 0 {
         Rule::Parent
@@ -44,8 +44,8 @@ fn root_state(alloc: Global, symbol: Symbol) -> Result<State, AllocError>
 }
 
 /// The state of a pair.
-#[tactic(auto, unfolding(crate::specs::Automaton::state_of))]
-fn state_of(
+#[tactic(auto, unfolding(crate::specs::Automaton::pair_state))]
+fn pair_state(
     alloc: Global,
     symbol: Symbol,
     pairs: &[Pair],
@@ -54,13 +54,13 @@ fn state_of(
     requires symbol { IsSymbol symbol.p symbol.q }
     requires few { length pairs.now ≤ 16384 }
     requires pair { IsPair symbol.p symbol.q pair }
-    ensures { IfOk result (λ s. s ≡ state_of symbol.p symbol.q pairs.now pair) }
+    ensures { IfOk result (λ s. s ≡ pair_state symbol.p symbol.q pairs.now pair) }
 {
     let sides = symbol.p as usize;
     let mut rules = Vec::with_capacity(alloc, sides)?;
     let mut claims = Vec::with_capacity(alloc, sides)?;
     for side in 0..symbol.p {
-        rules.push(rule_of(symbol, pairs, pair, side))?;
+        rules.push(pair_rule(symbol, pairs, pair, side))?;
         claims.push(symbol.claim(pair, side))?;
     }
     Ok(State {
@@ -72,8 +72,8 @@ fn state_of(
 }
 
 /// All states: the root, and behind it those of the pairs.
-#[tactic(auto, unfolding(crate::specs::Automaton::states_of))]
-pub fn states_of(
+#[tactic(auto, unfolding(crate::specs::Automaton::all_states))]
+pub fn all_states(
     alloc: Global,
     symbol: Symbol,
     pairs: &[Pair],
@@ -81,11 +81,11 @@ pub fn states_of(
     requires symbol { IsSymbol symbol.p symbol.q }
     requires few { length pairs.now ≤ 16384 }
     requires pairs { All (IsPair symbol.p symbol.q) pairs.now }
-    ensures { IfOk result (λ states. states.items ≡ states_of symbol.p symbol.q pairs.now) }
+    ensures { IfOk result (λ states. states.items ≡ all_states symbol.p symbol.q pairs.now) }
 {
     let mut states = vec![in alloc; root_state(alloc, symbol)?]?;
     for n in 0..pairs.len() {
-        states.push(state_of(alloc, symbol, pairs, pairs[n])?)?;
+        states.push(pair_state(alloc, symbol, pairs, pairs[n])?)?;
     }
     Ok(states)
 }

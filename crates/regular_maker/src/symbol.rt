@@ -1,20 +1,22 @@
 // The symbol {p,q} of a regular tessellation, and the claims round its corners.
 ghost use Rattle.std.specs.Prelude.{◌≡◌, ◌+◌, ◌-◌, ◌<◌, ◌≤◌, IsTrue};
 ghost use Rattle.regular_maker.specs.Corners.{outer_of};
-ghost use Rattle.regular_maker.specs.States.{between, lowest, beyond, right_claim, right_run, left_claim, left_run, rights, lefts, claim_of, is_child, child_pair, first_pair};
+ghost use Rattle.regular_maker.specs.States.{pair_between, lowest, beyond, right_claim, right_run, left_claim, left_run, rights, lefts, pair_claim, is_child, child_pair, first_pair};
 ghost use Rattle.regular_maker.specs.Pairs.{IsPair};
 ghost use Rattle.regular_maker.specs.Regular.{IsSymbol};
 
 use tree_model::Claim;
 
-/// The symbol {p,q} of a regular tessellation: its tiles have `p` sides, and `q` tiles lie round each corner.
+/// The symbol {p,q} of a regular tessellation: its tiles have `p` sides, and `q` tiles lie round
+/// each corner.
 #[derive(Clone, Copy, Debug, PartialEq, Eq)]
 pub struct Symbol {
     pub p: u8,
     pub q: u8,
 }
 
-/// What determines a state that is no root: its claim 0 and its last claim, of the corners behind and before its parent side.
+/// What determines a state that is no root: its claim 0 and its last claim, of the corners behind
+/// and before its parent side.
 #[derive(Clone, Copy, Debug, PartialEq, Eq)]
 pub struct Pair {
     pub first: Claim,
@@ -22,9 +24,9 @@ pub struct Pair {
 }
 
 /// The pair of the child between two claims of its parent.
-fn between(before: Claim, behind: Claim) -> Pair
+fn pair_between(before: Claim, behind: Claim) -> Pair
     requires { before.place < 64 }
-    ensures { result ≡ between before behind }
+    ensures { result ≡ pair_between before behind }
 {
     Pair {
         first: Claim {
@@ -51,7 +53,10 @@ impl Symbol {
     }
 
     /// The corner at the other end of the key edge of a corner type.
-    #[tactic(auto, unfolding(crate::specs::Corners::outer_of, crate::specs::Corners::half, crate::specs::Corners::parity))]
+    #[tactic(
+        auto,
+        unfolding(crate::specs::Corners::outer_of, crate::specs::Corners::half, crate::specs::Corners::parity)
+    )]
     pub fn outer(self, corner: u32) -> Claim
         requires { IsSymbol self.p self.q }
         ensures value { result ≡ outer_of self.q corner }
@@ -138,12 +143,12 @@ impl Symbol {
     }
 
     /// Claim `i` of the state of a pair.
-    #[tactic(auto, unfolding(crate::specs::States::claim_of))]
+    #[tactic(auto, unfolding(crate::specs::States::pair_claim))]
     pub fn claim(self, pair: Pair, i: u8) -> Claim
         requires symbol { IsSymbol self.p self.q }
         requires pair { IsPair self.p self.q pair }
         requires side { i < self.p }
-        ensures value { result ≡ claim_of self.p self.q pair i }
+        ensures value { result ≡ pair_claim self.p self.q pair i }
         ensures place { result.place < self.q }
     {
         if i <= self.rights(pair) {
@@ -173,7 +178,7 @@ impl Symbol {
         requires side { i < self.p }
         ensures { result ≡ child_pair self.p self.q pair i }
     {
-        between(self.claim(pair, i.saturating_sub(1)), self.claim(pair, i))
+        pair_between(self.claim(pair, i.saturating_sub(1)), self.claim(pair, i))
     }
 
     /// The pair of the children of the root.
@@ -182,6 +187,6 @@ impl Symbol {
         requires { IsSymbol self.p self.q }
         ensures { result ≡ first_pair self.q }
     {
-        between(self.lowest(), self.lowest())
+        pair_between(self.lowest(), self.lowest())
     }
 }

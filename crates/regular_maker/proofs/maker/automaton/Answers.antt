@@ -3,21 +3,21 @@ use Rattle.std.proofs.lemmas.List.{get_or_default}
 use Rattle.regular_maker.specs.Pairs.{IsPair}
 use Rattle.regular_maker.specs.States.{first_pair}
 use Rattle.regular_maker.specs.Corners.{parity, corner_types}
-use Rattle.regular_maker.specs.Automaton.{pair_at, all_pairs, states_of}
+use Rattle.regular_maker.specs.Automaton.{pair_at, all_pairs, all_states}
 use Rattle.regular_maker.specs.declared.symbol.Pair.{Pair}
 use Rattle.regular_maker.proofs.Shapes.{shape_of}
 use Rattle.regular_maker.proofs.AllPairs.{all_few, all_list}
 use Rattle.regular_maker.proofs.maker.automaton.Goals as goal
 
-pub states_of-requires-clause-few : goal.states_of-requires-clause-few
-states_of-requires-clause-few c =
+pub all_states-requires-clause-few : goal.all_states-requires-clause-few
+all_states-requires-clause-few c =
     let few = all_few c.args.symbol.p c.args.symbol.q (shape_of c.args.symbol.p c.args.symbol.q c.requires.symbol) in
     let same = c.deref.ensures.value ∙ c.in_ok-pairs.ensures in
     omega (arith, ap length same, few)
 
-pub states_of-requires-clause-pairs : goal.states_of-requires-clause-pairs
+pub all_states-requires-clause-pairs : goal.all_states-requires-clause-pairs
 unfolding pair_at
-states_of-requires-clause-pairs c = λ k d h.
+all_states-requires-clause-pairs c = λ k d h.
     let p = c.args.symbol.p in
     let q = c.args.symbol.q in
     let same : c.deref.result.now ≡ all_pairs p q = c.deref.ensures.value ∙ c.in_ok-pairs.ensures in
@@ -33,6 +33,6 @@ returns c =
     let p = c.args.symbol.p in
     let q = c.args.symbol.q in
     let same : c.deref.result.now ≡ all_pairs p q = c.deref.ensures.value ∙ c.in_ok-pairs.ensures in
-    let states = c.in_ok-states_of.ensures ∙ ap (states_of p q) same in
+    let states = c.in_ok-all_states.ensures ∙ ap (all_states p q) same in
     let scale : q % 2 + 1 ≡ suc (q % 2) = omega arith in
     λ i. record { states = states i; corners = c.in_ok-corner_types.ensures i; roots = c.in_ok-vec.ensures.items i; scale = scale i }
