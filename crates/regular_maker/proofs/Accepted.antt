@@ -14,7 +14,8 @@ use Rattle.regular_maker.proofs.SideConditions.{parent_rule, child_type, claim_v
 use Rattle.regular_maker.proofs.ChildConditions.{keeps_claims}
 use Rattle.regular_maker.proofs.CornerConditions.{one_change, small_change, greater_outer}
 
-all_conditions : (p q : ℕ) (shape : IsShape p q) (kinds : List TileKind) → IsOver p q kinds → IsAccepted kinds (regular_automaton p q)
+all_conditions : (p q : ℕ) (shape : IsShape p q) (kinds : List TileKind) → IsOver p q kinds
+    → IsAccepted kinds (regular_automaton p q)
 all_conditions p q shape kinds over = record {
     c1 = closed_table p q shape kinds over;
     c2 = parent_rule p q shape kinds over;
@@ -30,8 +31,10 @@ all_conditions p q shape kinds over = record {
     c12 = λ g h. greater_outer p q shape g (omega (arith, h, corner_count p q));
   }
 
-pub accepted : (kinds : List TileKind) → IsValid kinds → IsRegular kinds → IsInfinite (p_of kinds) (q_of kinds)
+pub accepted : (kinds : List TileKind) → IsValid kinds → IsRegular kinds
+    → IsInfinite (p_of kinds) (q_of kinds)
     → IsAccepted kinds (regular_automaton (p_of kinds) (q_of kinds))
 accepted kinds valid regular infinite =
-    all_conditions (p_of kinds) (q_of kinds) (shape_of (p_of kinds) (q_of kinds) (symbol_of kinds valid regular infinite))
+    all_conditions (p_of kinds) (q_of kinds)
+        (shape_of (p_of kinds) (q_of kinds) (symbol_of kinds valid regular infinite))
       kinds (over_of kinds valid regular)

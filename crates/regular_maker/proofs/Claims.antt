@@ -1,4 +1,5 @@
--- The claims of the state of a pair: which have place 0, which have the last place, and what stands beside the runs.
+-- The claims of the state of a pair: which have place 0, which have the last place, and what stands
+-- beside the runs.
 use Rattle.std.proofs.Common.{◌≡◌, ◌≢◌, ℕ, zero, suc, ◌+◌, ◌-◌, ◌*◌, ◌<◌, ◌≤◌, ◌⊎◌, inl, inr, refl, sym, ap, ◌∙◌, subst, arith, true, false, ◌↔◌}
 use Rattle.std.specs.Prelude.{nat_le, if◌then◌else◌}
 use Rattle.std.proofs.lemmas.Bool.{cases_lt, cases_eq, le-leb, lt-leb}
@@ -12,20 +13,24 @@ use Rattle.regular_maker.proofs.Runs.{right_last, right_ends, left_first, left_s
 
 module _ (p q : ℕ) where
   -- a claim within the run of Right sides, within that of Left sides, and between them
-  pub claim_right : (x : Pair) (i : ℕ) → i ≤ rights p q x → pair_claim p q x i ≡ right_claim q x.first i
+  pub claim_right : (x : Pair) (i : ℕ) → i ≤ rights p q x
+      → pair_claim p q x i ≡ right_claim q x.first i
   unfolding pair_claim
   claim_right x i h = rw (le-leb i (rights p q x) h) refl
 
-  pub claim_left : (x : Pair) (i : ℕ) → rights p q x < i → p - 1 ≤ i + lefts p q x → pair_claim p q x i ≡ left_claim q x.last (p - 1 - i)
+  pub claim_left : (x : Pair) (i : ℕ) → rights p q x < i → p - 1 ≤ i + lefts p q x
+      → pair_claim p q x i ≡ left_claim q x.last (p - 1 - i)
   unfolding pair_claim
   claim_left x i h g = rw (lt-leb i (rights p q x) h, le-leb (p - 1) (i + lefts p q x) g) refl
 
-  pub claim_middle : (x : Pair) (i : ℕ) → rights p q x < i → i + lefts p q x < p - 1 → pair_claim p q x i ≡ lowest q
+  pub claim_middle : (x : Pair) (i : ℕ) → rights p q x < i → i + lefts p q x < p - 1
+      → pair_claim p q x i ≡ lowest q
   unfolding pair_claim
   claim_middle x i h g = rw (lt-leb i (rights p q x) h, lt-leb (p - 1) (i + lefts p q x) g) refl
 
--- What a claim of the state of a pair is, as far as the conditions ask: it is one of a corner, it has the last place exactly where it lies in
--- the run of Right sides, and place 0 exactly where it lies in that of Left sides.
+-- What a claim of the state of a pair is, as far as the conditions ask: it is one of a corner, it
+-- has the last place exactly where it lies in the run of Right sides, and place 0 exactly where it
+-- lies in that of Left sides.
 pub record IsTold (p q : ℕ) (x : Pair) (i : ℕ) (c : Claim) : Type 0 where
   pub corner : c.corner ≤ parity q
   pub place : c.place < q
@@ -72,7 +77,8 @@ module _ (p q : ℕ) (shape : IsShape p q) (x : Pair) (pair : IsPair p q x) wher
         ahead = λ more. left;
       }
 
-  told_left : (i : ℕ) → i < p → rights p q x < i → p - 1 ≤ i + lefts p q x → IsTold p q x i (left_claim q x.last (p - 1 - i))
+  told_left : (i : ℕ) → i < p → rights p q x < i → p - 1 ≤ i + lefts p q x
+      → IsTold p q x i (left_claim q x.last (p - 1 - i))
   unfolding lefts
   told_left i side h g =
       let j = p - 1 - i in
@@ -97,28 +103,37 @@ module _ (p q : ℕ) (shape : IsShape p q) (x : Pair) (pair : IsPair p q x) wher
   pub told : (i : ℕ) → i < p → IsTold p q x i (pair_claim p q x i)
   told i side = go (cases_lt (rights p q x) i) (cases_lt (i + lefts p q x) (p - 1))
     where
-      go : (rights p q x < i) ⊎ (i ≤ rights p q x) → (i + lefts p q x < p - 1) ⊎ (p - 1 ≤ i + lefts p q x) → IsTold p q x i (pair_claim p q x i)
+      go : (rights p q x < i) ⊎ (i ≤ rights p q x)
+          → (i + lefts p q x < p - 1) ⊎ (p - 1 ≤ i + lefts p q x)
+          → IsTold p q x i (pair_claim p q x i)
       go (inr h) _ = subst (IsTold p q x i) (sym (claim_right p q x i h)) (told_right i h)
-      go (inl h) (inl g) = subst (IsTold p q x i) (sym (claim_middle p q x i h g)) (told_middle i h g)
-      go (inl h) (inr g) = subst (IsTold p q x i) (sym (claim_left p q x i h g)) (told_left i side h g)
+      go (inl h) (inl g) = subst (IsTold p q x i) (sym (claim_middle p q x i h g))
+          (told_middle i h g)
+      go (inl h) (inr g) = subst (IsTold p q x i) (sym (claim_left p q x i h g))
+          (told_left i side h g)
 
   -- the claim before a Left side is the outer of the claim behind it
-  pub claim_before_left : (i : ℕ) → 1 ≤ i → i < p → p ≤ i + lefts p q x → pair_claim p q x (i - 1) ≡ outer_of q (pair_claim p q x i).corner
+  pub claim_before_left : (i : ℕ) → 1 ≤ i → i < p → p ≤ i + lefts p q x
+      → pair_claim p q x (i - 1) ≡ outer_of q (pair_claim p q x i).corner
   unfolding left_claim
   claim_before_left i some side left =
       let apart = runs_apart p q shape x pair in
       let e : p - 1 - (i - 1) ≡ suc (p - 1 - i) = omega (arith, some, side) in
-      let before : pair_claim p q x (i - 1) ≡ left_claim q x.last (p - 1 - (i - 1)) = claim_left p q x (i - 1) (omega (arith, apart, left)) (omega (arith, left, some)) in
-      let this : pair_claim p q x i ≡ left_claim q x.last (p - 1 - i) = claim_left p q x i (omega (arith, apart, left)) (omega (arith, left)) in
+      let before : pair_claim p q x (i - 1) ≡ left_claim q x.last (p - 1 - (i - 1))
+          = claim_left p q x (i - 1) (omega (arith, apart, left)) (omega (arith, left, some)) in
+      let this : pair_claim p q x i ≡ left_claim q x.last (p - 1 - i)
+          = claim_left p q x i (omega (arith, apart, left)) (omega (arith, left)) in
       before ∙ ap (left_claim q x.last) e ∙ ap (λ (c : Claim). outer_of q c.corner) (sym this)
 
   -- the claim behind a Right side is further than the outer of the claim before it
-  pub claim_behind_right : (i : ℕ) → 1 ≤ i → i ≤ rights p q x → pair_claim p q x i ≡ beyond q (pair_claim p q x (i - 1)).corner
+  pub claim_behind_right : (i : ℕ) → 1 ≤ i → i ≤ rights p q x
+      → pair_claim p q x i ≡ beyond q (pair_claim p q x (i - 1)).corner
   unfolding right_claim
   claim_behind_right i some right =
       let e : i ≡ suc (i - 1) = omega (arith, some) in
       let this : pair_claim p q x i ≡ right_claim q x.first i = claim_right p q x i right in
-      let before : pair_claim p q x (i - 1) ≡ right_claim q x.first (i - 1) = claim_right p q x (i - 1) (omega (arith, right)) in
+      let before : pair_claim p q x (i - 1) ≡ right_claim q x.first (i - 1)
+          = claim_right p q x (i - 1) (omega (arith, right)) in
       this ∙ ap (right_claim q x.first) e ∙ ap (λ (c : Claim). beyond q c.corner) (sym before)
 
   -- the claims at the two ends are the pair

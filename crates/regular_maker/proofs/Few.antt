@@ -1,4 +1,5 @@
--- A list of pairs of states without doubles has 16,384 entries at most: pairs have different numbers below 128 times 128.
+-- A list of pairs of states without doubles has 16,384 entries at most: pairs have different
+-- numbers below 128 times 128.
 use Rattle.std.proofs.Common.{◌≡◌, ◌≢◌, ℕ, zero, suc, ◌+◌, ◌-◌, ◌*◌, ◌<◌, ◌≤◌, ◌⊎◌, inl, inr, List, [], ◌∷◌, length, get_or, map, refl, sym, ap, ap₂, ◌∙◌, subst, arith, true, false, Bool}
 use Rattle.std.specs.Prelude.{nat_eq, ◌||◌}
 use Rattle.std.specs.List.{list_any, IsDistinct}
@@ -37,7 +38,8 @@ claim_one c d h g e =
     let place : c.place ≡ d.place = omega (arith, corner, e) in
     λ i. record { corner = corner i; place = place i }
 
-below_from : (xs : List ℕ) (n : ℕ) → ((k : ℕ) → k < length xs → get_or xs k 0 < n) → (m : ℕ) → list_any (nat_eq m) xs ≡ true → m < n
+below_from : (xs : List ℕ) (n : ℕ) → ((k : ℕ) → k < length xs → get_or xs k 0 < n) → (m : ℕ)
+    → list_any (nat_eq m) xs ≡ true → m < n
 below_from [] n all m e = absurd (cc)
 below_from (x ∷ xs) n all m e = elim (or_cases (nat_eq m x) (list_any (nat_eq m) xs) e) [
     inl here ↦ omega (arith, eqb-true m x here, all 0 (omega arith))
@@ -46,7 +48,9 @@ below_from (x ∷ xs) n all m e = elim (or_cases (nat_eq m x) (list_any (nat_eq 
 
 module _ (p q : ℕ) (shape : IsShape p q) where
   first_small : (x : Pair) → IsPair p q x → IsSmall x.first
-  first_small x h = record { corner = omega (arith, h.first.corner, shape.parity); place = omega (arith, h.first.place, shape.tiles) }
+  first_small x h = record
+      { corner = omega (arith, h.first.corner, shape.parity);
+      place = omega (arith, h.first.place, shape.tiles) }
 
   last_small : (x : Pair) → IsPair p q x → IsSmall x.last
   last_small x h = record {
@@ -56,7 +60,8 @@ module _ (p q : ℕ) (shape : IsShape p q) where
 
   pair_below : (x : Pair) → IsPair p q x → pair_number x < 16384
   unfolding pair_number
-  pair_below x h = omega (arith, claim_below x.first (first_small x h), claim_below x.last (last_small x h))
+  pair_below x h = omega
+      (arith, claim_below x.first (first_small x h), claim_below x.last (last_small x h))
 
   pair_one : (x y : Pair) → IsPair p q x → IsPair p q y → pair_number x ≡ pair_number y → x ≡ y
   unfolding pair_number
@@ -79,9 +84,12 @@ module _ (p q : ℕ) (shape : IsShape p q) where
           let there : j < length xs = omega (arith, g, long) in
           let here : i < length xs = omega (arith, h, there) in
           ne_eqb (get_or numbers i d) (get_or numbers j d) (λ e.
-            list.distinct i j h there (pair_one (get_or xs i (first_pair q)) (get_or xs j (first_pair q)) (list.pairs i here) (list.pairs j there)
+            list.distinct i j h there
+                (pair_one (get_or xs i (first_pair q)) (get_or xs j (first_pair q))
+                (list.pairs i here) (list.pairs j there)
               (sym (at i d here) ∙ e ∙ at j d there)))) in
       let below : (k : ℕ) → k < length numbers → get_or numbers k 0 < 16384 = λ k h.
           let here : k < length xs = omega (arith, h, long) in
           omega (arith, at k 0 here, pair_below (get_or xs k (first_pair q)) (list.pairs k here)) in
-      omega (arith, long, length-le_from_distinct_below numbers 16384 distinct (below_from numbers 16384 below))
+      omega (arith, long, length-le_from_distinct_below numbers 16384 distinct
+          (below_from numbers 16384 below))

@@ -9,9 +9,11 @@ module _ {X : Type 0} (f : ℕ → X) where
   length-listed zero = refl
   length-listed (suc n) = omega (arith, length_push (listed f n) (f n), length-listed n)
 
-  listed_step : (n i : ℕ) (d : X) → (i < n → get_or (listed f n) i d ≡ f i) → (i < n) ⊎ (n ≤ i) → i < suc n → get_or (listed f (suc n)) i d ≡ f i
+  listed_step : (n i : ℕ) (d : X) → (i < n → get_or (listed f n) i d ≡ f i) → (i < n) ⊎ (n ≤ i)
+      → i < suc n → get_or (listed f (suc n)) i d ≡ f i
   listed_step n i d before (inl less) h =
-      get_or_append_left (listed f n) (f n ∷ []) d i (omega (arith, less, length-listed n)) ∙ before less
+      get_or_append_left (listed f n) (f n ∷ []) d i (omega (arith, less, length-listed n))
+          ∙ before less
   listed_step n i d before (inr more) h =
       let e : i ≡ n = omega arith in
       get_or_push (listed f n) (f n) d i (omega (arith, length-listed n, e)) ∙ ap f (sym e)

@@ -7,7 +7,8 @@ use Rattle.regular_maker.specs.Regular.{IsRegular, IsInfinite, IsSymbol, p_of, q
 use Rattle.regular_maker.specs.Automaton.{regular_automaton}
 use Rattle.regular_maker.proofs.Tables.{IsPlain, plain}
 
--- The kinds are one kind of p sides that are all alike and lie across from each other, with q tiles round each corner.
+-- The kinds are one kind of p sides that are all alike and lie across from each other, with q tiles
+-- round each corner.
 pub record IsOver (p q : ℕ) (kinds : List TileKind) : Type 0 where
   pub count : length kinds ≡ 1
   pub sides : (kind_at kinds 0).sides ≡ p
@@ -23,7 +24,8 @@ module _ (kinds : List TileKind) (valid : IsValid kinds) (regular : IsRegular ki
   over_of =
       let partner = valid.partner (0, 0) the_type in
       let kind : (cross kinds (0, 0)).0 ≡ 0 = omega (arith, partner.0, regular.one_kind) in
-      let same : (kind_at kinds (cross kinds (0, 0)).0).repeat ≡ 1 = ap (λ k. (kind_at kinds k).repeat) kind ∙ regular.one_type in
+      let same : (kind_at kinds (cross kinds (0, 0)).0).repeat ≡ 1
+          = ap (λ k. (kind_at kinds k).repeat) kind ∙ regular.one_type in
       let residue : (cross kinds (0, 0)).1 ≡ 0 = omega (arith, partner.1, same) in
       record {
         count = regular.one_kind;
@@ -55,8 +57,10 @@ module _ (p q : ℕ) (kinds : List TileKind) (over : IsOver p q kinds) where
   unfolding type_at
   type_is s i h =
       let kind = (plain p q s h).kind in
-      let one : (kind_at kinds (state_at A s).kind).repeat ≡ 1 = ap (λ k. (kind_at kinds k).repeat) kind ∙ over.one_type in
-      let residue = modulo_one ((state_at A s).off + i) (kind_at kinds (state_at A s).kind).repeat one in
+      let one : (kind_at kinds (state_at A s).kind).repeat ≡ 1
+          = ap (λ k. (kind_at kinds k).repeat) kind ∙ over.one_type in
+      let residue = modulo_one ((state_at A s).off + i)
+          (kind_at kinds (state_at A s).kind).repeat one in
       λ j. (kind j, residue j)
 
 pub previous_is : (n i : ℕ) → 1 ≤ i → previous n i ≡ i - 1

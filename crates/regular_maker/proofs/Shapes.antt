@@ -1,4 +1,5 @@
--- What the numbers p and q of an infinite regular tessellation are, and on which side of the lowest tile of its corner a claim lies.
+-- What the numbers p and q of an infinite regular tessellation are, and on which side of the lowest
+-- tile of its corner a claim lies.
 use Rattle.std.proofs.Common.{◌≡◌, ℕ, suc, ◌+◌, ◌-◌, ◌*◌, ◌/◌, ◌%◌, ◌<◌, ◌≤◌, ◌⊎◌, inl, inr, refl, ap, subst, arith}
 use Rattle.std.proofs.lemmas.Bool.{cases_lt, cases_eq}
 use Rattle.tree_model.specs.declared.Claim.{Claim}
@@ -38,7 +39,8 @@ shape_of p q symbol = record {
     cases = which (cases_eq p 3) (cases_eq q 3);
   }
   where
-    which : (p ≡ 3) ⊎ (p ≡ 3 → ⊥) → (q ≡ 3) ⊎ (q ≡ 3 → ⊥) → ((p ≡ 3) × (6 ≤ q)) ⊎ (((q ≡ 3) × (6 ≤ p)) ⊎ ((4 ≤ p) × (4 ≤ q)))
+    which : (p ≡ 3) ⊎ (p ≡ 3 → ⊥) → (q ≡ 3) ⊎ (q ≡ 3 → ⊥)
+        → ((p ≡ 3) × (6 ≤ q)) ⊎ (((q ≡ 3) × (6 ≤ p)) ⊎ ((4 ≤ p) × (4 ≤ q)))
     which (inl e) _ = inl (e, triangles p q e symbol.infinite)
     which (inr other) (inl e) = inr (inl (e, threes p q e symbol.infinite))
     which (inr other) (inr more) =
@@ -70,7 +72,9 @@ module _ (p q : ℕ) (shape : IsShape p q) where
 
   pub lowest_right : IsRight q (lowest q)
   unfolding lowest
-  lowest_right = record { corner = omega arith; behind = omega arith; place = omega (arith, shape.tiles, shape.halves, shape.parity) }
+  lowest_right = record
+      { corner = omega arith; behind = omega arith;
+      place = omega (arith, shape.tiles, shape.halves, shape.parity) }
 
   pub lowest_left : IsLeft q (lowest q)
   unfolding lowest

@@ -29,18 +29,21 @@ module _ (p q : ℕ) (shape : IsShape p q) where
   pub pair_is : (k : ℕ) → k < length (all_pairs p q) → IsPair p q (pair k)
   pair_is k h = (all_list p q shape).pairs k h
 
-  -- a Child side of a state behind the root lies between the runs, and its number is that of the pair across it
+  -- a Child side of a state behind the root lies between the runs, and its number is that of the
+  -- pair across it
   pub record IsChildOf (k i c : ℕ) : Type 0 where
     pub behind : rights p q (pair k) < i
     pub before : i + lefts p q (pair k) < p
     pub number : c ≡ suc (index_in (all_pairs p q) (child_pair p q (pair k) i))
     pub there : IsIn (all_pairs p q) (child_pair p q (pair k) i)
 
-  pub child_of : (k i c : ℕ) → k < length (all_pairs p q) → i < p → rule_at A (suc k) i ≡ Child c → IsChildOf k i c
+  pub child_of : (k i c : ℕ) → k < length (all_pairs p q) → i < p → rule_at A (suc k) i ≡ Child c
+      → IsChildOf k i c
   unfolding number_of
   child_of k i c h side e =
       let x = pair k in
-      let parts = ruled_child p q (all_pairs p q) x i c (pair_rule p q (all_pairs p q) x i) (ruled p q (all_pairs p q) x i) (sym (state_rule p q k i h side) ∙ e) in
+      let parts = ruled_child p q (all_pairs p q) x i c (pair_rule p q (all_pairs p q) x i)
+          (ruled p q (all_pairs p q) x i) (sym (state_rule p q k i h side) ∙ e) in
       record {
         behind = parts.0;
         before = parts.1;
@@ -54,8 +57,10 @@ module _ (p q : ℕ) (shape : IsShape p q) where
   pub root_child : (i c : ℕ) → i < p → rule_at A 0 i ≡ Child c → c ≡ 1
   root_child = one_is
 
-  pub child_there : (s i c : ℕ) → s < length A.states → i < p → rule_at A s i ≡ Child c → c < length A.states
-  child_there zero i c h side e = omega (arith, one_is i c side e, state_count p q, all_some p q shape)
+  pub child_there : (s i c : ℕ) → s < length A.states → i < p → rule_at A s i ≡ Child c
+      → c < length A.states
+  child_there zero i c h side e
+      = omega (arith, one_is i c side e, state_count p q, all_some p q shape)
   child_there (suc k) i c h side e =
       let child = child_of k i c (omega (arith, h, state_count p q)) side e in
       omega (arith, child.number, child.there, state_count p q)
@@ -68,11 +73,13 @@ module _ (p q : ℕ) (shape : IsShape p q) where
   pub placed : (s i : ℕ) → s < length A.states → i < p → IsPlaced (claim_at A s i)
   placed zero i h side =
       let low = lowest_right p q shape in
-      subst IsPlaced (sym (root_claim p q i side)) (record { corner = low.corner; place = low.place })
+      subst IsPlaced (sym (root_claim p q i side))
+          (record { corner = low.corner; place = low.place })
   placed (suc k) i h side =
       let less : k < length (all_pairs p q) = omega (arith, h, state_count p q) in
       let this = told p q shape (pair k) (pair_is k less) i side in
-      subst IsPlaced (sym (state_claim p q k i less side)) (record { corner = this.corner; place = this.place })
+      subst IsPlaced (sym (state_claim p q k i less side))
+          (record { corner = this.corner; place = this.place })
 
 module _ (p q : ℕ) (shape : IsShape p q) (kinds : List TileKind) (over : IsOver p q kinds) where
   abbrev B : TreeAutomaton
@@ -94,7 +101,8 @@ module _ (p q : ℕ) (shape : IsShape p q) (kinds : List TileKind) (over : IsOve
   tables : (s : ℕ) → s < length B.states → HasTables kinds B s
   tables s h =
       let state = plain p q s h in
-      let one : (kind_at kinds (state_at B s).kind).repeat ≡ 1 = ap (λ k. (kind_at kinds k).repeat) state.kind ∙ over.one_type in
+      let one : (kind_at kinds (state_at B s).kind).repeat ≡ 1
+          = ap (λ k. (kind_at kinds k).repeat) state.kind ∙ over.one_type in
       record {
         kind = omega (arith, state.kind, over.count);
         off = omega (arith, state.off, one);
@@ -109,7 +117,8 @@ module _ (p q : ℕ) (shape : IsShape p q) (kinds : List TileKind) (over : IsOve
         child = λ i c side e. child_there p q shape s i c h (omega (arith, side, n)) e;
         claim = λ i side.
           let there = placed p q shape s i h (omega (arith, side, n)) in
-          (omega (arith, there.corner, corner_count p q), omega (arith, there.place, valence_is p q (claim_at B s i).corner there.corner));
+          (omega (arith, there.corner, corner_count p q),
+              omega (arith, there.place, valence_is p q (claim_at B s i).corner there.corner));
       }
 
   pub closed_table : IsClosedTable kinds B

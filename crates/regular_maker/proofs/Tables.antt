@@ -39,21 +39,27 @@ module _ (p q : ℕ) where
 
   pub root_rule : (i : ℕ) → i < p → rule_at A 0 i ≡ Child 1
   unfolding rule_at root_state
-  root_rule i h = ap (λ (s : TreeState). slice_index_or s.rules i Parent) root_is ∙ get_or-replicate p i (Child 1) Parent h
+  root_rule i h = ap (λ (s : TreeState). slice_index_or s.rules i Parent) root_is
+      ∙ get_or-replicate p i (Child 1) Parent h
 
   pub root_claim : (i : ℕ) → i < p → claim_at A 0 i ≡ lowest q
   unfolding claim_at root_state
-  root_claim i h = ap (λ (s : TreeState). slice_index_or s.claims i no_claim) root_is ∙ get_or-replicate p i (lowest q) no_claim h
+  root_claim i h = ap (λ (s : TreeState). slice_index_or s.claims i no_claim) root_is
+      ∙ get_or-replicate p i (lowest q) no_claim h
 
-  pub state_rule : (k i : ℕ) → k < length pairs → i < p → rule_at A (suc k) i ≡ pair_rule p q pairs (pair k) i
+  pub state_rule : (k i : ℕ) → k < length pairs → i < p
+      → rule_at A (suc k) i ≡ pair_rule p q pairs (pair k) i
   unfolding rule_at pair_state
   state_rule k i h g =
-      ap (λ (s : TreeState). slice_index_or s.rules i Parent) (state_is k h) ∙ listed_at (pair_rule p q pairs (pair k)) p i Parent g
+      ap (λ (s : TreeState). slice_index_or s.rules i Parent) (state_is k h)
+          ∙ listed_at (pair_rule p q pairs (pair k)) p i Parent g
 
-  pub state_claim : (k i : ℕ) → k < length pairs → i < p → claim_at A (suc k) i ≡ pair_claim p q (pair k) i
+  pub state_claim : (k i : ℕ) → k < length pairs → i < p
+      → claim_at A (suc k) i ≡ pair_claim p q (pair k) i
   unfolding claim_at pair_state
   state_claim k i h g =
-      ap (λ (s : TreeState). slice_index_or s.claims i no_claim) (state_is k h) ∙ listed_at (pair_claim p q (pair k)) p i no_claim g
+      ap (λ (s : TreeState). slice_index_or s.claims i no_claim) (state_is k h)
+          ∙ listed_at (pair_claim p q (pair k)) p i no_claim g
 
   -- every state has kind 0 and residue 0, and p rules and claims
   pub record IsPlain (s : TreeState) : Type 0 where
@@ -64,15 +70,19 @@ module _ (p q : ℕ) where
 
   root_plain : IsPlain (root_state p q)
   unfolding root_state
-  root_plain = record { kind = refl; off = refl; rules = length-replicate p (Child 1); claims = length-replicate p (lowest q) }
+  root_plain = record { kind = refl; off = refl; rules = length-replicate p (Child 1);
+      claims = length-replicate p (lowest q) }
 
   state_plain : (x : Pair) → IsPlain (pair_state p q pairs x)
   unfolding pair_state
-  state_plain x = record { kind = refl; off = refl; rules = length-listed (pair_rule p q pairs x) p; claims = length-listed (pair_claim p q x) p }
+  state_plain x = record
+      { kind = refl; off = refl; rules = length-listed (pair_rule p q pairs x) p;
+      claims = length-listed (pair_claim p q x) p }
 
   pub plain : (s : ℕ) → s < length A.states → IsPlain (state_at A s)
   plain zero h = subst IsPlain (sym root_is) root_plain
-  plain (suc k) h = subst IsPlain (sym (state_is k (omega (arith, h, state_count)))) (state_plain (pair k))
+  plain (suc k) h = subst IsPlain (sym (state_is k (omega (arith, h, state_count))))
+      (state_plain (pair k))
 
   -- the tables of corner types
   pub corner_count : length A.corners ≡ suc (parity q)
@@ -84,11 +94,13 @@ module _ (p q : ℕ) where
 
   pub valence_is : (g : ℕ) → g ≤ parity q → corner_valence A g ≡ q
   unfolding corner_valence
-  valence_is g h = ap (λ (c : CornerType). length c.offsets) (corner_is g h) ∙ length-listed (depth_at q g) q
+  valence_is g h = ap (λ (c : CornerType). length c.offsets) (corner_is g h)
+      ∙ length-listed (depth_at q g) q
 
   pub offset_is : (g t : ℕ) → g ≤ parity q → t < q → offset A g t ≡ depth_at q g t
   unfolding offset
-  offset_is g t h f = ap (λ (c : CornerType). slice_index_or c.offsets t (pos 0)) (corner_is g h) ∙ listed_at (depth_at q g) q t (pos 0) f
+  offset_is g t h f = ap (λ (c : CornerType). slice_index_or c.offsets t (pos 0)) (corner_is g h)
+      ∙ listed_at (depth_at q g) q t (pos 0) f
 
   pub outer_is : (g : ℕ) → g ≤ parity q → outer A g ≡ outer_of q g
   unfolding outer
@@ -114,19 +126,28 @@ pub data IsRuled (p q : ℕ) (ps : List Pair) (x : Pair) (i : ℕ) : Rule → Ty
   its_parent : i ≡ 0 → IsRuled p q ps x i Parent
   its_right : 1 ≤ i → i ≤ rights p q x → IsRuled p q ps x i Right
   its_left : 1 ≤ i → rights p q x < i → p ≤ i + lefts p q x → IsRuled p q ps x i Left
-  its_child : rights p q x < i → i + lefts p q x < p → IsRuled p q ps x i (Child (number_of ps (child_pair p q x i)))
+  its_child : rights p q x < i → i + lefts p q x < p
+      → IsRuled p q ps x i (Child (number_of ps (child_pair p q x i)))
 
 module _ (p q : ℕ) (ps : List Pair) (x : Pair) (i : ℕ) where
   pub ruled : IsRuled p q ps x i (pair_rule p q ps x i)
   unfolding pair_rule
   ruled = go (cases_eq i 0) (cases_lt (rights p q x) i) (cases_lt (i + lefts p q x) p)
     where
-      go : (i ≡ 0) ⊎ (i ≡ 0 → ⊥) → (rights p q x < i) ⊎ (i ≤ rights p q x) → (i + lefts p q x < p) ⊎ (p ≤ i + lefts p q x)
-          → IsRuled p q ps x i (if nat_eq i 0 then Parent else if nat_le i (rights p q x) then Right else if nat_le p (i + lefts p q x) then Left else Child (number_of ps (child_pair p q x i)))
+      go : (i ≡ 0) ⊎ (i ≡ 0 → ⊥) → (rights p q x < i) ⊎ (i ≤ rights p q x)
+          → (i + lefts p q x < p) ⊎ (p ≤ i + lefts p q x)
+          → IsRuled p q ps x i (if nat_eq i 0 then Parent else if nat_le i
+              (rights p q x) then Right else if nat_le p (i + lefts p q x) then Left else Child
+              (number_of ps (child_pair p q x i)))
       go (inl e) _ _ = rw (eq-eqb i 0 e) (its_parent e)
-      go (inr other) (inr h) _ = rw (ne_eqb i 0 other, le-leb i (rights p q x) h) (its_right (omega (arith, other)) h)
-      go (inr other) (inl h) (inr g) = rw (ne_eqb i 0 other, lt-leb i (rights p q x) h, le-leb p (i + lefts p q x) g) (its_left (omega (arith, other)) h g)
-      go (inr other) (inl h) (inl g) = rw (ne_eqb i 0 other, lt-leb i (rights p q x) h, lt-leb p (i + lefts p q x) g) (its_child h g)
+      go (inr other) (inr h) _
+          = rw (ne_eqb i 0 other, le-leb i (rights p q x) h) (its_right (omega (arith, other)) h)
+      go (inr other) (inl h) (inr g)
+          = rw (ne_eqb i 0 other, lt-leb i (rights p q x) h, le-leb p (i + lefts p q x) g)
+          (its_left (omega (arith, other)) h g)
+      go (inr other) (inl h) (inl g)
+          = rw (ne_eqb i 0 other, lt-leb i (rights p q x) h, lt-leb p (i + lefts p q x) g)
+          (its_child h g)
 
   pub ruled_parent : (r : Rule) → IsRuled p q ps x i r → r ≡ Parent → i ≡ 0
   ruled_parent _ (its_parent z) e = z
@@ -158,7 +179,8 @@ module _ (p q : ℕ) (ps : List Pair) (x : Pair) (i : ℕ) where
   ruled_left _ (its_left s h g) e = (s, g)
   ruled_left _ (its_child h g) e = absurd (cc)
 
-  pub left_ruled : (r : Rule) → IsRuled p q ps x i r → rights p q x < i → p ≤ i + lefts p q x → r ≡ Left
+  pub left_ruled : (r : Rule) → IsRuled p q ps x i r → rights p q x < i → p ≤ i + lefts p q x
+      → r ≡ Left
   left_ruled _ (its_parent z) h g = absurd (omega (arith, h, z))
   left_ruled _ (its_right _ f) h g = absurd (omega (arith, f, h))
   left_ruled _ (its_left _ _ _) h g = refl
