@@ -58,18 +58,18 @@ module _ (p q : ℕ) (shape : IsShape p q) where
   all_first =
       let some : 0 < length (pairs_met p q 0) = omega (arith, ap length first_met) in
       (all_grows 0 (omega arith)).same 0 some ∙ ap (λ (xs : List Pair). pair_at q xs 0) first_met
-          ∙ first_at
+      ∙ first_at
 
   -- a state that is numbered has been met before it is gone through
   met_before : (k : ℕ) → k < length (all_pairs p q) → k < length (pairs_met p q k)
   met_before k h = elim (cases_lt k (length (pairs_met p q k))) [
-      inl less ↦ less
+    | inl less ↦ less
     | inr more ↦
         let few = all_few in
         let same : length (all_pairs p q) ≡ length (pairs_met p q k)
-            = ap length (all_met k more (omega (arith, h, few))) in
+        = ap length (all_met k more (omega (arith, h, few))) in
         absurd (omega (arith, same, h, more))
-    ]
+  ]
 
   pub all_closed : (k i : ℕ) → k < length (all_pairs p q) → i < p
       → is_child p q (pair_at q (all_pairs p q) k) i ≡ true
@@ -78,15 +78,15 @@ module _ (p q : ℕ) (shape : IsShape p q) where
       let few = all_few in
       let less = met_before k h in
       let same : pair_at q (all_pairs p q) k ≡ pair_at q (pairs_met p q k) k
-          = (all_grows k (omega (arith, h, few))).same k less in
+      = (all_grows k (omega (arith, h, few))).same k less in
       let child : is_child p q (pair_at q (pairs_met p q k) k) i ≡ true
-          = subst (λ (x : Pair). is_child p q x i ≡ true) same e in
+      = subst (λ (x : Pair). is_child p q x i ≡ true) same e in
       let made : IsIn (pairs_met_at p q (pairs_met p q k) (pair_at q (pairs_met p q k) k) p)
-          (child_pair p q (pair_at q (pairs_met p q k) k) i)
-        = at_in p q (pairs_met p q k) (pair_at q (pairs_met p q k) k) p i side child in
+      (child_pair p q (pair_at q (pairs_met p q k) k) i)
+      = at_in p q (pairs_met p q k) (pair_at q (pairs_met p q k) k) p i side child in
       let there : IsIn (pairs_met p q (suc k)) (child_pair p q (pair_at q (pairs_met p q k) k) i)
-        = subst (λ (xs : List Pair). IsIn xs (child_pair p q (pair_at q (pairs_met p q k) k) i))
-            (sym (met_more p q shape k less)) made in
+      = subst (λ (xs : List Pair). IsIn xs (child_pair p q (pair_at q (pairs_met p q k) k) i))
+      (sym (met_more p q shape k less)) made in
       let found = in_grows q (all_grows (suc k) (omega (arith, h, few)))
-          (child_pair p q (pair_at q (pairs_met p q k) k) i) there in
+      (child_pair p q (pair_at q (pairs_met p q k) k) i) there in
       subst (λ (x : Pair). IsIn (all_pairs p q) (child_pair p q x i)) (sym same) found

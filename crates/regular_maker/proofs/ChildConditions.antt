@@ -41,15 +41,15 @@ module _ (p q : ℕ) (shape : IsShape p q) where
       record {
         first = refl;
         first_depth = offset_is p q d.corner (suc d.place) right.corner h.not_last
-          ∙ deeper_behind q d.corner d.place right.behind
-          ∙ ap (λ z. z +ℤ pos 1) (sym (offset_is p q d.corner d.place right.corner right.place));
+            ∙ deeper_behind q d.corner d.place right.behind
+            ∙ ap (λ z. z +ℤ pos 1) (sym (offset_is p q d.corner d.place right.corner right.place));
         last = λ i. record { corner = e.corner; place = place i };
         last_depth = offset_is p q e.corner (e.place - 1) left.corner
             (omega (arith, left.ahead, shape.tiles, shape.halves, shape.parity))
-          ∙ deeper_ahead q e.corner e.place some left.ahead
-          ∙ ap (λ z. z +ℤ pos 1)
-              (sym (offset_is p q e.corner e.place left.corner
-              (omega (arith, left.ahead, shape.tiles, shape.halves, shape.parity))));
+            ∙ deeper_ahead q e.corner e.place some left.ahead
+            ∙ ap (λ z. z +ℤ pos 1)
+            (sym (offset_is p q e.corner e.place left.corner
+            (omega (arith, left.ahead, shape.tiles, shape.halves, shape.parity))));
       }
 
   -- the claims at both ends of the state of a pair that is numbered
@@ -77,16 +77,16 @@ module _ (p q : ℕ) (shape : IsShape p q) where
   child_ends k i c child =
       let x = child_pair p q (pair p q shape k) i in
       subst (λ n. HasEnds n x) (sym child.number)
-        (subst (HasEnds (suc (index_in (all_pairs p q) x))) (in_at q (all_pairs p q) x child.there)
-            (ends (index_in (all_pairs p q) x) child.there))
+      (subst (HasEnds (suc (index_in (all_pairs p q) x))) (in_at q (all_pairs p q) x child.there)
+      (ends (index_in (all_pairs p q) x) child.there))
 
   four : (d e f l d' e' f' l' : Claim) → d ≡ d' → e ≡ e' → f ≡ f' → l ≡ l' → AreNested d' e' f' l'
       → AreNested d e f l
   four d e f l d' e' f' l' a b g h n =
       subst (λ (z : Claim). AreNested z e f l) (sym a)
-        (subst (λ (z : Claim). AreNested d' z f l) (sym b)
-          (subst (λ (z : Claim). AreNested d' e' z l) (sym g)
-              (subst (λ (z : Claim). AreNested d' e' f' z) (sym h) n)))
+      (subst (λ (z : Claim). AreNested d' z f l) (sym b)
+      (subst (λ (z : Claim). AreNested d' e' z l) (sym g)
+      (subst (λ (z : Claim). AreNested d' e' f' z) (sym h) n)))
 
   first_of_child : (n j c : ℕ) → HasEnds c (child_pair p q (pair p q shape n) j)
       → claim_at A c 0 ≡ further (pair_claim p q (pair p q shape n) (j - 1))
@@ -100,34 +100,34 @@ module _ (p q : ℕ) (shape : IsShape p q) where
 
   state_kept : (n j c : ℕ) → n < length (all_pairs p q) → j < p → rule_at A (suc n) j ≡ Child c
       → AreNested (claim_at A (suc n) (previous p j)) (claim_at A (suc n) j) (claim_at A c 0)
-          (claim_at A c (p - 1))
+      (claim_at A c (p - 1))
   state_kept n j c less side e =
       let x = pair p q shape n in
       let child = child_of p q shape n j c less side e in
       let there = child_ends n j c child in
       let some : 1 ≤ j = omega (arith, child.behind) in
       let before : claim_at A (suc n) (previous p j) ≡ pair_claim p q x (j - 1)
-        = ap (claim_at A (suc n)) (previous_is p j some)
-            ∙ state_claim p q n (j - 1) less (omega (arith, side)) in
+      = ap (claim_at A (suc n)) (previous_is p j some)
+      ∙ state_claim p q n (j - 1) less (omega (arith, side)) in
       four (claim_at A (suc n) (previous p j)) (claim_at A (suc n) j) (claim_at A c 0)
-          (claim_at A c (p - 1))
-        (pair_claim p q x (j - 1)) (pair_claim p q x j) (further (pair_claim p q x (j - 1)))
-            (nearer (pair_claim p q x j))
-        before (state_claim p q n j less side) (first_of_child n j c there)
-            (last_of_child n j c there)
-        (nested (pair_claim p q x (j - 1)) (pair_claim p q x j)
-            (child_open p q shape x (pair_is p q shape n less) j child.behind child.before))
+      (claim_at A c (p - 1))
+      (pair_claim p q x (j - 1)) (pair_claim p q x j) (further (pair_claim p q x (j - 1)))
+      (nearer (pair_claim p q x j))
+      before (state_claim p q n j less side) (first_of_child n j c there)
+      (last_of_child n j c there)
+      (nested (pair_claim p q x (j - 1)) (pair_claim p q x j)
+      (child_open p q shape x (pair_is p q shape n less) j child.behind child.before))
 
   claims_kept : (s i c : ℕ) → s < length A.states → i < p → rule_at A s i ≡ Child c
       → AreNested (claim_at A s (previous p i)) (claim_at A s i) (claim_at A c 0)
-          (claim_at A c (p - 1))
+      (claim_at A c (p - 1))
   claims_kept zero i c h side e =
       let there = root_ends c (root_child p q shape i c side e) in
       four (claim_at A 0 (previous p i)) (claim_at A 0 i) (claim_at A c 0) (claim_at A c (p - 1))
-          (lowest q) (lowest q) (further (lowest q)) (nearer (lowest q))
-        (root_claim p q (previous p i) (previous_less p i side))
-            (root_claim p q i side) there.first there.last
-        (nested (lowest q) (lowest q) (root_open p q shape))
+      (lowest q) (lowest q) (further (lowest q)) (nearer (lowest q))
+      (root_claim p q (previous p i) (previous_less p i side))
+      (root_claim p q i side) there.first there.last
+      (nested (lowest q) (lowest q) (root_open p q shape))
   claims_kept (suc k) i c h side e = state_kept k i c (omega (arith, h, state_count p q)) side e
 
 module _ (p q : ℕ) (shape : IsShape p q) (kinds : List TileKind) (over : IsOver p q kinds) where
@@ -142,9 +142,9 @@ module _ (p q : ℕ) (shape : IsShape p q) (kinds : List TileKind) (over : IsOve
       let there = child_there p q shape s i c h side e in
       let kept = claims_kept p q shape s i c h side e in
       let behind : claim_at B s (previous p i) ≡ claim_at B s (previous (side_count kinds B s) i)
-          = ap (λ k. claim_at B s (previous k i)) (sym m) in
+      = ap (λ k. claim_at B s (previous k i)) (sym m) in
       let last : claim_at B c (p - 1) ≡ claim_at B c (side_count kinds B c - 1)
-        = ap (λ k. claim_at B c (k - 1)) (sym (sides_are p q kinds over c there)) in
+      = ap (λ k. claim_at B c (k - 1)) (sym (sides_are p q kinds over c there)) in
       record {
         first = kept.first ∙ ap further behind;
         first_depth = subst (λ (d : Claim). offset B d.corner (suc d.place)

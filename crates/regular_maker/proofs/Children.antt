@@ -45,8 +45,11 @@ pub record IsOpen (q : ℕ) (c d : Claim) : Type 0 where
 
 pub further_behind : (q : ℕ) (c d : Claim) → IsOpen q c d → IsBehind q (further c)
 further_behind q c d h
-    = record { corner = h.behind.corner; behind = omega (arith, h.behind.behind);
-    place = h.not_last }
+    = record {
+      corner = h.behind.corner;
+      behind = omega (arith, h.behind.behind);
+      place = h.not_last;
+    }
 
 pub nearer_ahead : (q : ℕ) (c d : Claim) → IsOpen q c d → IsAhead q (nearer d)
 nearer_ahead q c d h = record
@@ -57,8 +60,12 @@ module _ (p q : ℕ) (shape : IsShape p q) where
   root_open =
       let right = lowest_right p q shape in
       let left = lowest_left p q shape in
-      record { behind = right; not_last = left_not_last p q shape (lowest q) left; ahead = left;
-          not_first = right_not_first p q shape (lowest q) right }
+      record {
+        behind = right;
+        not_last = left_not_last p q shape (lowest q) left;
+        ahead = left;
+        not_first = right_not_first p q shape (lowest q) right;
+      }
 
   pub first_is_pair : IsPair p q (first_pair q)
   unfolding lowest
@@ -96,8 +103,12 @@ module _ (p q : ℕ) (shape : IsShape p q) (x : Pair) (pair : IsPair p q x) wher
   after_right : (c d : Claim) (g : ℕ) → c ≡ beyond q g → AreNear q (further c) d
   unfolding beyond outer_of
   after_right c d g e =
-      inl (omega (arith, half_least p q shape, ap (λ (b : Claim). b.place) e,
-          ap (λ (b : Claim). b.corner) e))
+      inl (omega (
+        arith,
+        half_least p q shape,
+        ap (λ (b : Claim). b.place) e,
+        ap (λ (b : Claim). b.corner) e,
+      ))
 
   -- where a Left side stands before the last side, claim 0 is next to the lowest tile
   next_to_lowest : 6 ≤ q → x.last.place ≡ 0 → (4 ≤ p) ⊎ AreNear q x.first x.last → p ≡ 3
@@ -113,8 +124,10 @@ module _ (p q : ℕ) (shape : IsShape p q) (x : Pair) (pair : IsPair p q x) wher
       → d ≡ outer_of q g → AreNear q (further x.first) (nearer d)
   unfolding outer_of
   before_left d g six h e =
-      inr (inr (omega (arith, h),
-          omega (arith, six, shape.halves, shape.parity, ap (λ (b : Claim). b.place) e)))
+      inr (inr (
+        omega (arith, h),
+        omega (arith, six, shape.halves, shape.parity, ap (λ (b : Claim). b.place) e),
+      ))
 
   triangle : (i : ℕ) → p ≡ 3 → 6 ≤ q → rights p q x < i → i + lefts p q x < p
       → AreNear q (further (pair_claim p q x (i - 1))) (nearer (pair_claim p q x i))
@@ -125,33 +138,33 @@ module _ (p q : ℕ) (shape : IsShape p q) (x : Pair) (pair : IsPair p q x) wher
     where
       go : 2 + (rights p q x + lefts p q x) ≤ p
           → (0 < rights p q x) ⊎ (rights p q x ≤ 0) → (0 < lefts p q x) ⊎ (lefts p q x ≤ 0)
-              → (1 < i) ⊎ (i ≤ 1)
+          → (1 < i) ⊎ (i ≤ 1)
           → AreNear q (further (pair_claim p q x (i - 1))) (nearer (pair_claim p q x i))
       go apart (inl some) _ _ =
           let e : i - 1 ≡ 1 = omega (arith, apart, some, three, h, g) in
           let at : pair_claim p q x (i - 1) ≡ right_claim q x.first (i - 1)
-              = claim_right p q x (i - 1) (omega (arith, e, some)) in
+          = claim_right p q x (i - 1) (omega (arith, e, some)) in
           after_right (pair_claim p q x (i - 1)) (nearer (pair_claim p q x i)) x.first.corner
-              (at ∙ ap (right_claim q x.first) e)
+          (at ∙ ap (right_claim q x.first) e)
       go apart (inr none) (inl some) _ =
           let e : p - 1 - i ≡ 1 = omega (arith, apart, some, three, h, g, none) in
           let f : i - 1 ≡ 0 = omega (arith, e, three) in
           let at : pair_claim p q x i ≡ left_claim q x.last (p - 1 - i)
-              = claim_left p q x i h (omega (arith, e, some, three)) in
+          = claim_left p q x i h (omega (arith, e, some, three)) in
           let start : pair_claim p q x (i - 1) ≡ right_claim q x.first (i - 1)
-              = claim_right p q x (i - 1) (omega (arith, f)) in
+          = claim_right p q x (i - 1) (omega (arith, f)) in
           let first : pair_claim p q x (i - 1) ≡ x.first = start ∙ ap (right_claim q x.first) f in
           let low = next_to_lowest six (left_first q (p - 1) x.last 0 some) pair.apart three in
           subst (λ (c : Claim). AreNear q (further c) (nearer (pair_claim p q x i))) (sym first)
-            (before_left (pair_claim p q x i) x.last.corner six low
-                (at ∙ ap (left_claim q x.last) e))
+          (before_left (pair_claim p q x i) x.last.corner six low
+          (at ∙ ap (left_claim q x.last) e))
       go apart (inr none) (inr no_left) (inl second) =
           after_lowest (pair_claim p q x (i - 1)) (nearer (pair_claim p q x i))
-            (claim_middle p q x (i - 1) (omega (arith, none, second))
-                (omega (arith, no_left, three, g, second)))
+          (claim_middle p q x (i - 1) (omega (arith, none, second))
+          (omega (arith, no_left, three, g, second)))
       go apart (inr none) (inr no_left) (inr first) =
           before_lowest (further (pair_claim p q x (i - 1))) (pair_claim p q x i)
-            (claim_middle p q x i h (omega (arith, no_left, three, first)))
+          (claim_middle p q x i h (omega (arith, no_left, three, first)))
 
   pub child_is_pair : (i : ℕ) → rights p q x < i → i + lefts p q x < p
       → IsPair p q (child_pair p q x i)
@@ -162,8 +175,8 @@ module _ (p q : ℕ) (shape : IsShape p q) (x : Pair) (pair : IsPair p q x) wher
         first = further_behind q (pair_claim p q x (i - 1)) (pair_claim p q x i) open_side;
         last = nearer_ahead q (pair_claim p q x (i - 1)) (pair_claim p q x i) open_side;
         apart = elim shape.cases [
-            inl few ↦ inr (triangle i few.0 few.1 h g)
+          | inl few ↦ inr (triangle i few.0 few.1 h g)
           | inr (inl three) ↦ inl (omega (arith, three.1))
           | inr (inr four) ↦ inl four.0
-          ];
+        ];
       }

@@ -53,9 +53,9 @@ module _ (p q : ℕ) (shape : IsShape p q) (x : Pair) (pair : IsPair p q x) wher
         place = right.place;
         last = λ less. right_last q (p - 1) x.first i less;
         not_last = λ more.
-          let e : right_run q x.first (p - 1) ≡ i = omega arith in
-          let few : right_run q x.first (p - 1) < p - 1 = omega (arith, apart) in
-          subst (λ j. suc (right_claim q x.first j).place ≢ q) e (right_ends q (p - 1) x.first few);
+            let e : right_run q x.first (p - 1) ≡ i = omega arith in
+            let few : right_run q x.first (p - 1) < p - 1 = omega (arith, apart) in
+            subst (λ j. suc (right_claim q x.first j).place ≢ q) e (right_ends q (p - 1) x.first few);
         first = λ more. absurd (omega (arith, apart, more));
         not_first = λ less. omega (arith, right_not_first p q shape c right);
         behind = λ less. right;
@@ -93,9 +93,9 @@ module _ (p q : ℕ) (shape : IsShape p q) (x : Pair) (pair : IsPair p q x) wher
         not_last = λ more. omega (arith, within);
         first = λ more. left_first q (p - 1) x.last j (omega (arith, more, side));
         not_first = λ less.
-          let e : left_run q x.last (p - 1) ≡ j = omega (arith, less, g, side) in
-          let few : left_run q x.last (p - 1) < p - 1 = omega (arith, apart) in
-          subst (λ k. (left_claim q x.last k).place ≢ 0) e (left_stops q (p - 1) x.last few);
+            let e : left_run q x.last (p - 1) ≡ j = omega (arith, less, g, side) in
+            let few : left_run q x.last (p - 1) < p - 1 = omega (arith, apart) in
+            subst (λ k. (left_claim q x.last k).place ≢ 0) e (left_stops q (p - 1) x.last few);
         behind = λ less. absurd (omega (arith, less));
         ahead = λ more. left;
       }
@@ -120,9 +120,9 @@ module _ (p q : ℕ) (shape : IsShape p q) (x : Pair) (pair : IsPair p q x) wher
       let apart = runs_apart p q shape x pair in
       let e : p - 1 - (i - 1) ≡ suc (p - 1 - i) = omega (arith, some, side) in
       let before : pair_claim p q x (i - 1) ≡ left_claim q x.last (p - 1 - (i - 1))
-          = claim_left p q x (i - 1) (omega (arith, apart, left)) (omega (arith, left, some)) in
+      = claim_left p q x (i - 1) (omega (arith, apart, left)) (omega (arith, left, some)) in
       let this : pair_claim p q x i ≡ left_claim q x.last (p - 1 - i)
-          = claim_left p q x i (omega (arith, apart, left)) (omega (arith, left)) in
+      = claim_left p q x i (omega (arith, apart, left)) (omega (arith, left)) in
       before ∙ ap (left_claim q x.last) e ∙ ap (λ (c : Claim). outer_of q c.corner) (sym this)
 
   -- the claim behind a Right side is further than the outer of the claim before it
@@ -133,7 +133,7 @@ module _ (p q : ℕ) (shape : IsShape p q) (x : Pair) (pair : IsPair p q x) wher
       let e : i ≡ suc (i - 1) = omega (arith, some) in
       let this : pair_claim p q x i ≡ right_claim q x.first i = claim_right p q x i right in
       let before : pair_claim p q x (i - 1) ≡ right_claim q x.first (i - 1)
-          = claim_right p q x (i - 1) (omega (arith, right)) in
+      = claim_right p q x (i - 1) (omega (arith, right)) in
       this ∙ ap (right_claim q x.first) e ∙ ap (λ (c : Claim). beyond q c.corner) (sym before)
 
   -- the claims at the two ends are the pair

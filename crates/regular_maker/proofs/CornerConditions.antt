@@ -41,28 +41,36 @@ module _ (p q : ℕ) (shape : IsShape p q) where
 
   left_depth : (g : ℕ) → g ≤ parity q
       → depth_at q (parity q - g) (suc ((half q - 1) + (parity q - g)))
-          ≡ (pos (parity q) -ℤ pos (suc g)) -ℤ pos ((half q - 1) + (parity q - g))
+      ≡ (pos (parity q) -ℤ pos (suc g)) -ℤ pos ((half q - 1) + (parity q - g))
   left_depth g h = elim (cases_lt g (parity q)) [
-      inl less ↦
+    | inl less ↦
         let one : parity q - g ≡ 1 = omega (arith, less, shape.parity) in
         let least = half_least p q shape in
         let up = depth_up q (parity q - g) (suc ((half q - 1) + (parity q - g)))
-            (omega (arith, one, least)) in
+        (omega (arith, one, least)) in
         omega (arith, ints, up, one, least, h)
     | inr more ↦
         let none : parity q - g ≡ 0 = omega (arith, more) in
         let least = half_least p q shape in
         let down = depth_down q (parity q - g) (suc ((half q - 1) + (parity q - g)))
-            (omega (arith, none, least)) in
+        (omega (arith, none, least)) in
         omega (arith, ints, down, none, least, h)
-    ]
+  ]
 
   small_depth : (g t : ℕ) → g ≤ parity q → t < q → nat_abs (depth_at q g t) ≤ 64
   small_depth g t h f = elim (cases_lt (half q) t) [
-      inl more ↦ omega (arith, ints, depth_up q g t more, f, h, shape.tiles, shape.halves,
-          shape.parity)
+    | inl more ↦ omega (
+      arith,
+      ints,
+      depth_up q g t more,
+      f,
+      h,
+      shape.tiles,
+      shape.halves,
+      shape.parity,
+    )
     | inr less ↦ omega (arith, ints, depth_down q g t less, f, h, shape.tiles)
-    ]
+  ]
 
   pub has_offsets : (g : ℕ) → g ≤ parity q → HasOffsets A g
   has_offsets g h =
@@ -71,8 +79,8 @@ module _ (p q : ℕ) (shape : IsShape p q) where
         count = (omega (arith, v, shape.tiles), omega (arith, v, shape.tiles));
         first = offset_is p q g 0 h (omega (arith, shape.tiles)) ∙ depth_down q g 0 (omega arith);
         small = λ t less.
-          let f : t < q = omega (arith, v, less) in
-          omega (arith, ap nat_abs (offset_is p q g t h f), small_depth g t h f);
+            let f : t < q = omega (arith, v, less) in
+            omega (arith, ap nat_abs (offset_is p q g t h f), small_depth g t h f);
       }
 
   -- the outer corner is a corner type
@@ -92,7 +100,7 @@ module _ (p q : ℕ) (shape : IsShape p q) where
   has_outer g h =
       let corner = reads_corner g h in
       let v : corner_valence A (outer A g).corner ≡ q = ap (corner_valence A) corner
-          ∙ valence_is p q (parity q - g) (outer_known g) in
+      ∙ valence_is p q (parity q - g) (outer_known g) in
       (omega (arith, corner, corner_count p q), omega (arith, reads_place g h, v, place_inside g))
 
   -- the depths that the conditions read
@@ -100,30 +108,32 @@ module _ (p q : ℕ) (shape : IsShape p q) where
       → offset A (outer A g).corner (outer A g).place ≡ pos 0 -ℤ pos ((half q - 1) + (parity q - g))
   reads_entered g h =
       ap₂ (offset A) (reads_corner g h) (reads_place g h)
-        ∙ offset_is p q (parity q - g) ((half q - 1) + (parity q - g)) (outer_known g)
-            (omega (arith, place_inside g)) ∙ entered_depth g h
+      ∙ offset_is p q (parity q - g) ((half q - 1) + (parity q - g)) (outer_known g)
+      (omega (arith, place_inside g)) ∙ entered_depth g h
 
   reads_left : (g : ℕ) → g ≤ parity q
       → offset A (outer A g).corner (suc (outer A g).place)
-          ≡ (pos (parity q) -ℤ pos (suc g)) -ℤ pos ((half q - 1) + (parity q - g))
+      ≡ (pos (parity q) -ℤ pos (suc g)) -ℤ pos ((half q - 1) + (parity q - g))
   reads_left g h =
       ap₂ (λ f t. offset A f (suc t)) (reads_corner g h) (reads_place g h)
-        ∙ offset_is p q (parity q - g) (suc ((half q - 1) + (parity q - g))) (outer_known g)
-            (place_inside g) ∙ left_depth g h
+      ∙ offset_is p q (parity q - g) (suc ((half q - 1) + (parity q - g))) (outer_known g)
+      (place_inside g) ∙ left_depth g h
 
   reads_last : (g : ℕ) → g ≤ parity q
       → offset A g (corner_valence A g - 1) ≡ pos (parity q) -ℤ pos (suc g)
   reads_last g h =
       ap (λ v. offset A g (v - 1)) (valence_is p q g h)
-          ∙ offset_is p q g (q - 1) h (omega (arith, shape.tiles)) ∙ last_depth g h
+      ∙ offset_is p q g (q - 1) h (omega (arith, shape.tiles)) ∙ last_depth g h
 
   pub one_change : (g : ℕ) → g ≤ parity q → HasOneChange A g
   one_change g h = omega
       (arith, ints, reads_entered g h, reads_left g h, reads_last g h, (has_offsets g h).first)
 
   pub small_change : (g : ℕ) → g ≤ parity q → HasSmallChange A g
-  small_change g h = (omega (arith, ints, reads_last g h, h),
-      omega (arith, ints, reads_last g h, shape.parity))
+  small_change g h = (
+    omega (arith, ints, reads_last g h, h),
+    omega (arith, ints, reads_last g h, shape.parity),
+  )
 
   scaled_even : (z : ℤ) → parity q ≡ 0 → pos (suc (parity q)) *ℤ z ≡ z
   scaled_even z e = let one : pos 1 *ℤ z ≡ z = omega (arith, ints) in ap (λ n. pos (suc n) *ℤ z) e
@@ -139,12 +149,33 @@ module _ (p q : ℕ) (shape : IsShape p q) where
       let entered = reads_entered g h in
       let near = rank_is p q g h in
       let far : rank A (outer A g).corner ≡ parity q - (parity q - g)
-        = ap (rank A) (reads_corner g h) ∙ rank_is p q (parity q - g) (outer_known g) in
+      = ap (rank A) (reads_corner g h) ∙ rank_is p q (parity q - g) (outer_known g) in
       elim (cases_eq (parity q) 0) [
-        inl even ↦ omega (arith, ints, scaled_even z even, entered, near, far, even, h, shape.tiles,
-            shape.halves)
-      | inr other ↦
-          let odd : parity q ≡ 1 = omega (arith, other, shape.parity) in
-          omega (arith, ints, scaled_odd z odd, entered, near, far, odd, h, shape.tiles,
-              shape.halves, half_least p q shape)
+        | inl even ↦ omega (
+          arith,
+          ints,
+          scaled_even z even,
+          entered,
+          near,
+          far,
+          even,
+          h,
+          shape.tiles,
+          shape.halves,
+        )
+        | inr other ↦
+            let odd : parity q ≡ 1 = omega (arith, other, shape.parity) in
+            omega (
+              arith,
+              ints,
+              scaled_odd z odd,
+              entered,
+              near,
+              far,
+              odd,
+              h,
+              shape.tiles,
+              shape.halves,
+              half_least p q shape,
+            )
       ]

@@ -42,15 +42,16 @@ below_from : (xs : List ℕ) (n : ℕ) → ((k : ℕ) → k < length xs → get_
     → list_any (nat_eq m) xs ≡ true → m < n
 below_from [] n all m e = absurd (cc)
 below_from (x ∷ xs) n all m e = elim (or_cases (nat_eq m x) (list_any (nat_eq m) xs) e) [
-    inl here ↦ omega (arith, eqb-true m x here, all 0 (omega arith))
+  | inl here ↦ omega (arith, eqb-true m x here, all 0 (omega arith))
   | inr there ↦ below_from xs n (λ k h. all (suc k) (omega (arith, h))) m there
-  ]
+]
 
 module _ (p q : ℕ) (shape : IsShape p q) where
   first_small : (x : Pair) → IsPair p q x → IsSmall x.first
-  first_small x h = record
-      { corner = omega (arith, h.first.corner, shape.parity);
-      place = omega (arith, h.first.place, shape.tiles) }
+  first_small x h = record {
+    corner = omega (arith, h.first.corner, shape.parity);
+    place = omega (arith, h.first.place, shape.tiles);
+  }
 
   last_small : (x : Pair) → IsPair p q x → IsSmall x.last
   last_small x h = record {
@@ -81,15 +82,19 @@ module _ (p q : ℕ) (shape : IsShape p q) where
       let at = λ (k d : ℕ) (h : k < length xs). get_or-map pair_number xs k (first_pair q) d h in
       let long : length numbers ≡ length xs = length-map xs pair_number in
       let distinct : IsDistinct nat_eq numbers = IsDistinct-from_apart nat_eq numbers (λ i j d h g.
-          let there : j < length xs = omega (arith, g, long) in
-          let here : i < length xs = omega (arith, h, there) in
-          ne_eqb (get_or numbers i d) (get_or numbers j d) (λ e.
-            list.distinct i j h there
-                (pair_one (get_or xs i (first_pair q)) (get_or xs j (first_pair q))
-                (list.pairs i here) (list.pairs j there)
-              (sym (at i d here) ∙ e ∙ at j d there)))) in
+      let there : j < length xs = omega (arith, g, long) in
+      let here : i < length xs = omega (arith, h, there) in
+      ne_eqb (get_or numbers i d) (get_or numbers j d) (λ e.
+      list.distinct i j h there
+      (pair_one (get_or xs i (first_pair q)) (get_or xs j (first_pair q))
+      (list.pairs i here) (list.pairs j there)
+      (sym (at i d here) ∙ e ∙ at j d there)))) in
       let below : (k : ℕ) → k < length numbers → get_or numbers k 0 < 16384 = λ k h.
-          let here : k < length xs = omega (arith, h, long) in
-          omega (arith, at k 0 here, pair_below (get_or xs k (first_pair q)) (list.pairs k here)) in
-      omega (arith, long, length-le_from_distinct_below numbers 16384 distinct
-          (below_from numbers 16384 below))
+      let here : k < length xs = omega (arith, h, long) in
+      omega (arith, at k 0 here, pair_below (get_or xs k (first_pair q)) (list.pairs k here)) in
+      omega (
+        arith,
+        long,
+        length-le_from_distinct_below numbers 16384 distinct
+            (below_from numbers 16384 below),
+      )

@@ -53,7 +53,7 @@ module _ (q : ℕ) where
   pub in_grows : {xs ys : List Pair} → Grows q xs ys → (x : Pair) → IsIn xs x → IsIn ys x
   in_grows {xs} {ys} g x h =
       in_from ys x (index_in xs x) (omega (arith, g.longer, h))
-          (g.same (index_in xs x) h ∙ in_at xs x h)
+      (g.same (index_in xs x) h ∙ in_at xs x h)
 
   pub with_old : (xs : List Pair) (x : Pair) → IsIn xs x → with_pair xs x ≡ xs
   unfolding with_pair
@@ -77,16 +77,16 @@ module _ (q : ℕ) where
 
   pub with_grows : (xs : List Pair) (x : Pair) → Grows q xs (with_pair xs x)
   with_grows xs x = elim (cases_lt (index_in xs x) (length xs)) [
-      inl old ↦ subst (Grows q xs) (sym (with_old xs x old)) (grows_self xs)
+    | inl old ↦ subst (Grows q xs) (sym (with_old xs x old)) (grows_self xs)
     | inr new ↦ subst (Grows q xs) (sym (with_new xs x new)) (push_grows xs x)
-    ]
+  ]
 
   pub with_in : (xs : List Pair) (x : Pair) → IsIn (with_pair xs x) x
   with_in xs x = elim (cases_lt (index_in xs x) (length xs)) [
-      inl old ↦ subst (λ (ys : List Pair). IsIn ys x) (sym (with_old xs x old)) old
+    | inl old ↦ subst (λ (ys : List Pair). IsIn ys x) (sym (with_old xs x old)) old
     | inr new ↦ subst (λ (ys : List Pair). IsIn ys x) (sym (with_new xs x new))
         (in_from (xs ++ x ∷ []) x (length xs) (omega (arith, length_push xs x)) (at_push xs x))
-    ]
+  ]
 
 -- one more pair behind those that are added
 pub with_push : (ps xs : List Pair) (x : Pair)
@@ -104,31 +104,31 @@ module _ (p q : ℕ) where
   push_pairs xs x list pair k (inr more) h =
       let e : length xs ≡ k = omega (arith, length_push xs x, h, more) in
       subst (λ j. IsPair p q (pair_at q (xs ++ x ∷ []) j)) e
-          (subst (IsPair p q) (sym (at_push q xs x)) pair)
+      (subst (IsPair p q) (sym (at_push q xs x)) pair)
 
   push_distinct : (xs : List Pair) (x : Pair) → IsList p q xs → length xs ≤ index_in xs x
       → (i j : ℕ) → (j < length xs) ⊎ (length xs ≤ j)
       → i < j → j < length (xs ++ x ∷ []) → pair_at q (xs ++ x ∷ []) i ≢ pair_at q (xs ++ x ∷ []) j
   push_distinct xs x list new i j (inl less) h g = λ e.
       list.distinct i j h less
-          (sym (before_push q xs x i (omega (arith, h, less))) ∙ e ∙ before_push q xs x j less)
+      (sym (before_push q xs x i (omega (arith, h, less))) ∙ e ∙ before_push q xs x j less)
   push_distinct xs x list new i j (inr more) h g = λ e.
       let last : j ≡ length xs = omega (arith, length_push xs x, g, more) in
       let less : i < length xs = omega (arith, h, last) in
       let there = sym (before_push q xs x i less) ∙ e ∙ ap (pair_at q (xs ++ x ∷ [])) last
-          ∙ at_push q xs x in
+      ∙ at_push q xs x in
       let found = in_from q xs x i less there in
       absurd (omega (arith, found, new))
 
   pub with_list : (xs : List Pair) (x : Pair) → IsList p q xs → IsPair p q x
       → IsList p q (with_pair xs x)
   with_list xs x list pair = elim (cases_lt (index_in xs x) (length xs)) [
-      inl old ↦ subst (IsList p q) (sym (with_old q xs x old)) list
+    | inl old ↦ subst (IsList p q) (sym (with_old q xs x old)) list
     | inr new ↦ subst (IsList p q) (sym (with_new q xs x new)) (record {
-        pairs = λ k h. push_pairs xs x list pair k (cases_lt k (length xs)) h;
-        distinct = λ i j h g. push_distinct xs x list new i j (cases_lt j (length xs)) h g;
-      })
-    ]
+      pairs = λ k h. push_pairs xs x list pair k (cases_lt k (length xs)) h;
+      distinct = λ i j h g. push_distinct xs x list new i j (cases_lt j (length xs)) h g;
+    })
+  ]
 
   child_parts : (x : Pair) (i : ℕ) → is_child p q x i ≡ true
       → (rights p q x < i) × (i + lefts p q x < p)
@@ -142,7 +142,7 @@ module _ (p q : ℕ) where
   unfolding is_child
   child_from x i h g =
       and_from (nat_lt (rights p q x) i) (nat_lt (i + lefts p q x) p) (lt-ltb (rights p q x) i h)
-          (lt-ltb (i + lefts p q x) p g)
+      (lt-ltb (i + lefts p q x) p g)
 
   -- a list of pairs, and those met at the sides below side n of the state of a pair
   abbrev pub pairs_met_at : List Pair → Pair → ℕ → List Pair
@@ -177,15 +177,15 @@ module _ (p q : ℕ) where
   at_in_step : (xs : List Pair) (x : Pair) (n i : ℕ)
       → (i < n → IsIn (pairs_met_at xs x n) (child_pair p q x i))
       → (i < n) ⊎ (n ≤ i) → i < suc n → is_child p q x i ≡ true
-          → IsIn (pairs_met_at xs x (suc n)) (child_pair p q x i)
+      → IsIn (pairs_met_at xs x (suc n)) (child_pair p q x i)
   at_in_step xs x n i before (inl less) h e =
       in_grows q (at_grows_step xs x n (cases_Bool (is_child p q x n))) (child_pair p q x i)
-          (before less)
+      (before less)
   at_in_step xs x n i before (inr more) h e =
       let same : n ≡ i = omega (arith, h, more) in
       let made : IsIn (pairs_met_at xs x (suc i)) (child_pair p q x i)
-        = subst (λ (ys : List Pair). IsIn ys (child_pair p q x i)) (sym (at_child xs x i e))
-            (with_in q (pairs_met_at xs x i) (child_pair p q x i)) in
+      = subst (λ (ys : List Pair). IsIn ys (child_pair p q x i)) (sym (at_child xs x i e))
+      (with_in q (pairs_met_at xs x i) (child_pair p q x i)) in
       subst (λ m. IsIn (pairs_met_at xs x (suc m)) (child_pair p q x i)) (sym same) made
 
   -- the pair of each child is met
@@ -198,12 +198,12 @@ module _ (p q : ℕ) (shape : IsShape p q) where
   at_list_step : (xs : List Pair) (x : Pair) (n : ℕ) → IsPair p q x
       → IsList p q (pairs_met_at p q xs x n)
       → (is_child p q x n ≡ true) ⊎ (is_child p q x n ≡ false)
-          → IsList p q (pairs_met_at p q xs x (suc n))
+      → IsList p q (pairs_met_at p q xs x (suc n))
   at_list_step xs x n pair before (inl e) =
       let parts = child_parts p q x n e in
       subst (IsList p q) (sym (at_child p q xs x n e))
-        (with_list p q (pairs_met_at p q xs x n) (child_pair p q x n) before
-            (child_is_pair p q shape x pair n parts.0 parts.1))
+      (with_list p q (pairs_met_at p q xs x n) (child_pair p q x n) before
+      (child_is_pair p q shape x pair n parts.0 parts.1))
   at_list_step xs x n pair before (inr e) = subst (IsList p q) (sym (at_other p q xs x n e)) before
 
   pub at_list : (xs : List Pair) (x : Pair) (n : ℕ) → IsPair p q x → IsList p q xs
@@ -237,8 +237,8 @@ module _ (p q : ℕ) (shape : IsShape p q) where
   met_grows n (suc k) =
       let e : suc (k + n) ≡ suc k + n = omega arith in
       subst (λ m. Grows q (pairs_met p q n) (pairs_met p q m)) e
-        (grows_on q (met_grows n k)
-            (met_grows_step (k + n) (cases_lt (k + n) (length (pairs_met p q (k + n))))))
+      (grows_on q (met_grows n k)
+      (met_grows_step (k + n) (cases_lt (k + n) (length (pairs_met p q (k + n))))))
 
   first_list : IsList p q (first_pair q ∷ [])
   unfolding pair_at
@@ -254,7 +254,7 @@ module _ (p q : ℕ) (shape : IsShape p q) where
       → IsList p q (pairs_met p q (suc n))
   met_list_step n before (inl less) =
       subst (IsList p q) (sym (met_more n less))
-          (at_list (pairs_met p q n) (pair_at q (pairs_met p q n) n) p (before.pairs n less) before)
+      (at_list (pairs_met p q n) (pair_at q (pairs_met p q n) n) p (before.pairs n less) before)
   met_list_step n before (inr more) = subst (IsList p q) (sym (met_done n more)) before
 
   pub met_list : (n : ℕ) → IsList p q (pairs_met p q n)

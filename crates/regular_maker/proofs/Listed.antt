@@ -13,7 +13,7 @@ module _ {X : Type 0} (f : ℕ → X) where
       → i < suc n → get_or (listed f (suc n)) i d ≡ f i
   listed_step n i d before (inl less) h =
       get_or_append_left (listed f n) (f n ∷ []) d i (omega (arith, less, length-listed n))
-          ∙ before less
+      ∙ before less
   listed_step n i d before (inr more) h =
       let e : i ≡ n = omega arith in
       get_or_push (listed f n) (f n) d i (omega (arith, length-listed n, e)) ∙ ap f (sym e)

@@ -54,12 +54,12 @@ index_few (y ∷ ys) x = index_few_step y ys x (index_few ys x) (cases_Bool (sam
 index_at_step : (d y : Pair) (ys : List Pair) (x : Pair)
     → (index_in ys x < length ys → get_or ys (index_in ys x) d ≡ x)
     → (same_pair y x ≡ true) ⊎ (same_pair y x ≡ false) → index_in (y ∷ ys) x < suc (length ys)
-        → get_or (y ∷ ys) (index_in (y ∷ ys) x) d ≡ x
+    → get_or (y ∷ ys) (index_in (y ∷ ys) x) d ≡ x
 index_at_step d y ys x before (inl e) h = ap (λ i. get_or (y ∷ ys) i d) (index_here y ys x e)
     ∙ same_pair_true y x e
 index_at_step d y ys x before (inr e) h =
     ap (λ i. get_or (y ∷ ys) i d) (index_there y ys x e)
-        ∙ before (omega (arith, index_there y ys x e, h))
+    ∙ before (omega (arith, index_there y ys x e, h))
 
 -- the entry at the index of a pair is that pair
 pub index_at : (d : Pair) (ys : List Pair) (x : Pair) → index_in ys x < length ys
@@ -70,7 +70,7 @@ index_at d (y ∷ ys) x h = index_at_step d y ys x (index_at d ys x) (cases_Bool
 index_low_step : (d y : Pair) (ys : List Pair) (x : Pair)
     → ((k : ℕ) → k < length ys → get_or ys k d ≡ x → index_in ys x ≤ k)
     → (same_pair y x ≡ true) ⊎ (same_pair y x ≡ false) → (k : ℕ) → k < suc (length ys)
-        → get_or (y ∷ ys) k d ≡ x → index_in (y ∷ ys) x ≤ k
+    → get_or (y ∷ ys) k d ≡ x → index_in (y ∷ ys) x ≤ k
 index_low_step d y ys x before (inl e) k h f = omega (arith, index_here y ys x e)
 index_low_step d y ys x before (inr e) zero h f
     = absurd (cc (e, subst (λ z. same_pair z x ≡ true) (sym f) (same_pair_self x)))

@@ -25,7 +25,7 @@ module _ (kinds : List TileKind) (valid : IsValid kinds) (regular : IsRegular ki
       let partner = valid.partner (0, 0) the_type in
       let kind : (cross kinds (0, 0)).0 ≡ 0 = omega (arith, partner.0, regular.one_kind) in
       let same : (kind_at kinds (cross kinds (0, 0)).0).repeat ≡ 1
-          = ap (λ k. (kind_at kinds k).repeat) kind ∙ regular.one_type in
+      = ap (λ k. (kind_at kinds k).repeat) kind ∙ regular.one_type in
       let residue : (cross kinds (0, 0)).1 ≡ 0 = omega (arith, partner.1, same) in
       record {
         count = regular.one_kind;
@@ -58,9 +58,9 @@ module _ (p q : ℕ) (kinds : List TileKind) (over : IsOver p q kinds) where
   type_is s i h =
       let kind = (plain p q s h).kind in
       let one : (kind_at kinds (state_at A s).kind).repeat ≡ 1
-          = ap (λ k. (kind_at kinds k).repeat) kind ∙ over.one_type in
+      = ap (λ k. (kind_at kinds k).repeat) kind ∙ over.one_type in
       let residue = modulo_one ((state_at A s).off + i)
-          (kind_at kinds (state_at A s).kind).repeat one in
+      (kind_at kinds (state_at A s).kind).repeat one in
       λ j. (kind j, residue j)
 
 pub previous_is : (n i : ℕ) → 1 ≤ i → previous n i ≡ i - 1

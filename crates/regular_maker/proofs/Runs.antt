@@ -43,15 +43,15 @@ module _ (q : ℕ) where
 
   last_step : (n : ℕ) (c : Claim)
       → ((j : ℕ) → j < right_run q (beyond q c.corner) n
-          → suc (right_claim q (beyond q c.corner) j).place ≡ q)
+      → suc (right_claim q (beyond q c.corner) j).place ≡ q)
       → (suc c.place ≡ q) ⊎ (suc c.place ≡ q → ⊥) → (i : ℕ) → i < right_run q c (suc n)
-          → suc (right_claim q c i).place ≡ q
+      → suc (right_claim q c i).place ≡ q
   unfolding right_claim
   last_step n c before (inr other) i h = absurd (omega (arith, right_run_none c (suc n) other, h))
   last_step n c before (inl e) zero h = e
   last_step n c before (inl e) (suc i) h =
       ap (λ (d : Claim). suc d.place) (sym (right_shift c i))
-          ∙ before i (omega (arith, right_run_more c n e, h))
+      ∙ before i (omega (arith, right_run_more c n e, h))
 
   -- within the run each claim has the last place
   pub right_last : (n : ℕ) (c : Claim) (i : ℕ) → i < right_run q c n
@@ -63,9 +63,9 @@ module _ (q : ℕ) where
 
   ends_step : (n : ℕ) (c : Claim)
       → (right_run q (beyond q c.corner) n < n
-          → suc (right_claim q (beyond q c.corner) (right_run q (beyond q c.corner) n)).place ≢ q)
+      → suc (right_claim q (beyond q c.corner) (right_run q (beyond q c.corner) n)).place ≢ q)
       → (suc c.place ≡ q) ⊎ (suc c.place ≡ q → ⊥) → right_run q c (suc n) < suc n
-          → suc (right_claim q c (right_run q c (suc n))).place ≢ q
+      → suc (right_claim q c (right_run q c (suc n))).place ≢ q
   unfolding right_claim
   ends_step n c before (inr other) h
       = λ last. other (subst (λ i. suc (right_claim q c i).place ≡ q)
@@ -74,8 +74,8 @@ module _ (q : ℕ) where
       let more = right_run_more c n e in
       let there = subst (λ i. suc (right_claim q c i).place ≡ q) more last in
       before (omega (arith, more, h))
-          (ap (λ (d : Claim). suc d.place) (right_shift c (right_run q (beyond q c.corner) n))
-          ∙ there)
+      (ap (λ (d : Claim). suc d.place) (right_shift c (right_run q (beyond q c.corner) n))
+      ∙ there)
 
   -- behind it stands a claim of another place
   pub right_ends : (n : ℕ) (c : Claim) → right_run q c n < n
@@ -96,15 +96,15 @@ module _ (q : ℕ) where
 
   first_step : (n : ℕ) (c : Claim)
       → ((j : ℕ) → j < left_run q (outer_of q c.corner) n
-          → (left_claim q (outer_of q c.corner) j).place ≡ 0)
+      → (left_claim q (outer_of q c.corner) j).place ≡ 0)
       → (c.place ≡ 0) ⊎ (c.place ≡ 0 → ⊥) → (i : ℕ) → i < left_run q c (suc n)
-          → (left_claim q c i).place ≡ 0
+      → (left_claim q c i).place ≡ 0
   unfolding left_claim
   first_step n c before (inr other) i h = absurd (omega (arith, left_run_none c (suc n) other, h))
   first_step n c before (inl e) zero h = e
   first_step n c before (inl e) (suc i) h =
       ap (λ (d : Claim). d.place) (sym (left_shift c i))
-          ∙ before i (omega (arith, left_run_more c n e, h))
+      ∙ before i (omega (arith, left_run_more c n e, h))
 
   -- within the run of Left sides each claim has place 0
   pub left_first : (n : ℕ) (c : Claim) (i : ℕ) → i < left_run q c n → (left_claim q c i).place ≡ 0
@@ -115,9 +115,9 @@ module _ (q : ℕ) where
 
   stops_step : (n : ℕ) (c : Claim)
       → (left_run q (outer_of q c.corner) n < n
-          → (left_claim q (outer_of q c.corner) (left_run q (outer_of q c.corner) n)).place ≢ 0)
+      → (left_claim q (outer_of q c.corner) (left_run q (outer_of q c.corner) n)).place ≢ 0)
       → (c.place ≡ 0) ⊎ (c.place ≡ 0 → ⊥) → left_run q c (suc n) < suc n
-          → (left_claim q c (left_run q c (suc n))).place ≢ 0
+      → (left_claim q c (left_run q c (suc n))).place ≢ 0
   unfolding left_claim
   stops_step n c before (inr other) h
       = λ first. other (subst (λ i. (left_claim q c i).place ≡ 0)
@@ -126,7 +126,7 @@ module _ (q : ℕ) where
       let more = left_run_more c n e in
       let there = subst (λ i. (left_claim q c i).place ≡ 0) more first in
       before (omega (arith, more, h))
-          (ap (λ (d : Claim). d.place) (left_shift c (left_run q (outer_of q c.corner) n)) ∙ there)
+      (ap (λ (d : Claim). d.place) (left_shift c (left_run q (outer_of q c.corner) n)) ∙ there)
 
   -- before it stands a claim of another place
   pub left_stops : (n : ℕ) (c : Claim) → left_run q c n < n
@@ -184,35 +184,35 @@ module _ (p q : ℕ) (shape : IsShape p q) where
   one_right : (n : ℕ) (c : Claim) → c.corner ≤ parity q → 4 ≤ q → right_run q c n ≤ 1
   unfolding right_claim beyond outer_of
   one_right n c h four = elim (cases_lt 1 (right_run q c n)) [
-      inl more ↦ absurd (omega (arith, right_last q n c 1 more, shape.halves, shape.parity))
+    | inl more ↦ absurd (omega (arith, right_last q n c 1 more, shape.halves, shape.parity))
     | inr few ↦ few
-    ]
+  ]
 
   one_left : (n : ℕ) (c : Claim) → c.corner ≤ parity q → 4 ≤ q → left_run q c n ≤ 1
   unfolding left_claim outer_of
   one_left n c h four = elim (cases_lt 1 (left_run q c n)) [
-      inl more ↦ absurd (omega (arith, left_first q n c 1 more, shape.halves, shape.parity))
+    | inl more ↦ absurd (omega (arith, left_first q n c 1 more, shape.halves, shape.parity))
     | inr few ↦ few
-    ]
+  ]
 
   -- with three it has two at most
   two_right : (n : ℕ) (c : Claim) → c.corner ≤ parity q → q ≡ 3 → right_run q c n ≤ 2
   unfolding right_claim beyond outer_of
   two_right n c h three = elim (cases_lt 2 (right_run q c n)) [
-      inl more ↦
+    | inl more ↦
         let second = right_last q n c 1 (omega (arith, more)) in
         absurd (omega (arith, second, right_last q n c 2 more, shape.halves, shape.parity))
     | inr few ↦ few
-    ]
+  ]
 
   two_left : (n : ℕ) (c : Claim) → c.corner ≤ parity q → q ≡ 3 → left_run q c n ≤ 2
   unfolding left_claim outer_of
   two_left n c h three = elim (cases_lt 2 (left_run q c n)) [
-      inl more ↦
+    | inl more ↦
         let second = left_first q n c 1 (omega (arith, more)) in
         absurd (omega (arith, second, left_first q n c 2 more, shape.halves, shape.parity))
     | inr few ↦ few
-    ]
+  ]
 
   -- With triangles the two runs of a pair have one side at most together.
   triangle_runs : (x : Pair) → IsPair p q x → p ≡ 3 → 6 ≤ q → rights p q x + lefts p q x ≤ 1
@@ -241,11 +241,19 @@ module _ (p q : ℕ) (shape : IsShape p q) where
   pub runs_apart : (x : Pair) → IsPair p q x → 2 + (rights p q x + lefts p q x) ≤ p
   unfolding rights lefts
   runs_apart x pair = elim shape.cases [
-      inl triangle ↦ omega (arith, triangle_runs x pair triangle.0 triangle.1, triangle.0)
+    | inl triangle ↦ omega (arith, triangle_runs x pair triangle.0 triangle.1, triangle.0)
     | inr (inl three) ↦
-        omega (arith, two_right (p - 1) x.first pair.first.corner three.0,
-            two_left (p - 1) x.last pair.last.corner three.0, three.1)
+        omega (
+          arith,
+          two_right (p - 1) x.first pair.first.corner three.0,
+          two_left (p - 1) x.last pair.last.corner three.0,
+          three.1,
+        )
     | inr (inr four) ↦
-        omega (arith, one_right (p - 1) x.first pair.first.corner four.1,
-            one_left (p - 1) x.last pair.last.corner four.1, four.0)
-    ]
+        omega (
+          arith,
+          one_right (p - 1) x.first pair.first.corner four.1,
+          one_left (p - 1) x.last pair.last.corner four.1,
+          four.0,
+        )
+  ]

@@ -32,12 +32,12 @@ threes p q e h =
 
 pub shape_of : (p q : ℕ) → IsSymbol p q → IsShape p q
 shape_of p q symbol = record {
-    sides = symbol.sides;
-    tiles = symbol.tiles;
-    halves = (halves q).0;
-    parity = (halves q).1;
-    cases = which (cases_eq p 3) (cases_eq q 3);
-  }
+  sides = symbol.sides;
+  tiles = symbol.tiles;
+  halves = (halves q).0;
+  parity = (halves q).1;
+  cases = which (cases_eq p 3) (cases_eq q 3);
+}
   where
     which : (p ≡ 3) ⊎ (p ≡ 3 → ⊥) → (q ≡ 3) ⊎ (q ≡ 3 → ⊥)
         → ((p ≡ 3) × (6 ≤ q)) ⊎ (((q ≡ 3) × (6 ≤ p)) ⊎ ((4 ≤ p) × (4 ≤ q)))
@@ -72,9 +72,11 @@ module _ (p q : ℕ) (shape : IsShape p q) where
 
   pub lowest_right : IsRight q (lowest q)
   unfolding lowest
-  lowest_right = record
-      { corner = omega arith; behind = omega arith;
-      place = omega (arith, shape.tiles, shape.halves, shape.parity) }
+  lowest_right = record {
+    corner = omega arith;
+    behind = omega arith;
+    place = omega (arith, shape.tiles, shape.halves, shape.parity);
+  }
 
   pub lowest_left : IsLeft q (lowest q)
   unfolding lowest

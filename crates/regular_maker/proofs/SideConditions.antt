@@ -33,27 +33,34 @@ module _ (p q : ℕ) (shape : IsShape p q) where
   parent_at : (s i : ℕ) → s < length A.states → i < p → rule_at A s i ≡ Parent → (i ≡ 0) × (s ≢ 0)
   parent_at zero i h side e = absurd (cc (root_rule p q i side))
   parent_at (suc k) i h side e =
-      let less : k < length (all_pairs p q) = omega (arith, h, state_count p q) in
-      (ruled_parent p q (all_pairs p q) (pair p q shape k) i
-          (pair_rule p q (all_pairs p q) (pair p q shape k) i)
-        (ruled p q (all_pairs p q) (pair p q shape k) i) (sym (state_rule p q k i less side) ∙ e),
-            omega arith)
+      let less : k < length (all_pairs p q) = omega (arith, h, state_count p q) in (
+        ruled_parent p q (all_pairs p q) (pair p q shape k) i
+            (pair_rule p q (all_pairs p q) (pair p q shape k) i)
+            (ruled p q (all_pairs p q) (pair p q shape k) i) (sym (state_rule p q k i less side) ∙ e),
+        omega arith,
+      )
 
   at_parent : (s i : ℕ) → s < length A.states → i < p → i ≡ 0 → s ≢ 0 → rule_at A s i ≡ Parent
   at_parent zero i h side z other = absurd (other refl)
   at_parent (suc k) i h side z other =
       let less : k < length (all_pairs p q) = omega (arith, h, state_count p q) in
       state_rule p q k i less side
-          ∙ parent_ruled p q (all_pairs p q) (pair p q shape k) i
-          (pair_rule p q (all_pairs p q) (pair p q shape k) i)
-        (ruled p q (all_pairs p q) (pair p q shape k) i) z
+      ∙ parent_ruled p q (all_pairs p q) (pair p q shape k) i
+      (pair_rule p q (all_pairs p q) (pair p q shape k) i)
+      (ruled p q (all_pairs p q) (pair p q shape k) i) z
 
   first_place : (s i : ℕ) → s < length A.states → i < p → HasFirstPlace A s i
   first_place zero i h side =
       let low = lowest_right p q shape in
-      let some = right_not_first p q shape (lowest q) low in
-      (λ z. absurd (omega (arith, some, sym (ap (λ (c : Claim). c.place) (root_claim p q i side)),
-          z)), λ e. absurd (cc (root_rule p q i side)))
+      let some = right_not_first p q shape (lowest q) low in (
+        λ z. absurd (omega (
+          arith,
+          some,
+          sym (ap (λ (c : Claim). c.place) (root_claim p q i side)),
+          z,
+        )),
+        λ e. absurd (cc (root_rule p q i side)),
+      )
   first_place (suc k) i h side =
       let less : k < length (all_pairs p q) = omega (arith, h, state_count p q) in
       let x = pair p q shape k in
@@ -61,15 +68,16 @@ module _ (p q : ℕ) (shape : IsShape p q) where
       let place = ap (λ (c : Claim). c.place) (state_claim p q k i less side) in
       let rule = state_rule p q k i less side in
       let known = ruled p q (all_pairs p q) x i in
-      let apart = runs_apart p q shape x (pair_is p q shape k less) in
-      (λ z. elim (cases_lt (i + lefts p q x) p) [
-          inl before ↦ absurd (this.not_first before (sym place ∙ z))
-        | inr left ↦ rule ∙ left_ruled p q (all_pairs p q) x i
-            (pair_rule p q (all_pairs p q) x i) known (omega (arith, apart, left)) left
+      let apart = runs_apart p q shape x (pair_is p q shape k less) in (
+        λ z. elim (cases_lt (i + lefts p q x) p) [
+          | inl before ↦ absurd (this.not_first before (sym place ∙ z))
+          | inr left ↦ rule ∙ left_ruled p q (all_pairs p q) x i
+              (pair_rule p q (all_pairs p q) x i) known (omega (arith, apart, left)) left
         ],
-       λ e. place ∙ this.first
-           (ruled_left p q (all_pairs p q) x i (pair_rule p q (all_pairs p q) x i) known
-           (sym rule ∙ e)).1)
+        λ e. place ∙ this.first
+            (ruled_left p q (all_pairs p q) x i (pair_rule p q (all_pairs p q) x i) known
+            (sym rule ∙ e)).1,
+      )
 
   -- the place is the last one exactly where the side behind the claim is Right
   last_place : (s i j : ℕ) → s < length A.states → i < p → j < p
@@ -77,9 +85,10 @@ module _ (p q : ℕ) (shape : IsShape p q) where
       → (suc (claim_at A s i).place ≡ q) ↔ (rule_at A s j ≡ Right)
   last_place zero i j h side other next_to =
       let low = lowest_left p q shape in
-      let few = left_not_last p q shape (lowest q) low in
-      (λ z. absurd (omega (arith, few, ap (λ (c : Claim). c.place) (root_claim p q i side), z)),
-          λ e. absurd (cc (root_rule p q j other)))
+      let few = left_not_last p q shape (lowest q) low in (
+        λ z. absurd (omega (arith, few, ap (λ (c : Claim). c.place) (root_claim p q i side), z)),
+        λ e. absurd (cc (root_rule p q j other)),
+      )
   last_place (suc k) i j h side other next_to =
       let less : k < length (all_pairs p q) = omega (arith, h, state_count p q) in
       let x = pair p q shape k in
@@ -87,23 +96,25 @@ module _ (p q : ℕ) (shape : IsShape p q) where
       let place = ap (λ (c : Claim). suc c.place) (state_claim p q k i less side) in
       let rule = state_rule p q k j less other in
       let known = ruled p q (all_pairs p q) x j in
-      let apart = runs_apart p q shape x (pair_is p q shape k less) in
-      (λ z. elim (cases_lt i (rights p q x)) [
-          inl inner ↦
-            let behind : j ≡ suc i = behind_is j next_to (omega (arith, apart, inner)) in
-            rule ∙ right_ruled p q (all_pairs p q) x j (pair_rule p q (all_pairs p q) x j) known
-                (omega (arith, behind)) (omega (arith, behind, inner))
-        | inr ended ↦ absurd (this.not_last ended (sym place ∙ z))
+      let apart = runs_apart p q shape x (pair_is p q shape k less) in (
+        λ z. elim (cases_lt i (rights p q x)) [
+          | inl inner ↦
+              let behind : j ≡ suc i = behind_is j next_to (omega (arith, apart, inner)) in
+              rule ∙ right_ruled p q (all_pairs p q) x j (pair_rule p q (all_pairs p q) x j) known
+              (omega (arith, behind)) (omega (arith, behind, inner))
+          | inr ended ↦ absurd (this.not_last ended (sym place ∙ z))
         ],
-       λ e.
-        let parts = ruled_right p q (all_pairs p q) x j (pair_rule p q (all_pairs p q) x j) known
+        λ e.
+            let parts = ruled_right p q (all_pairs p q) x j (pair_rule p q (all_pairs p q) x j) known
             (sym rule ∙ e) in
-        let behind : j ≡ suc i = after_is j next_to parts.0 in
-        place ∙ this.last (omega (arith, parts.1, behind)))
+            let behind : j ≡ suc i = after_is j next_to parts.0 in
+            place ∙ this.last (omega (arith, parts.1, behind)),
+      )
     where
       behind_is : (m : ℕ) → ((m ≡ suc i) ⊎ ((m ≡ 0) × (suc i ≡ p))) → suc i < p → m ≡ suc i
       behind_is m (inl e) f = e
       behind_is m (inr g) f = absurd (omega (arith, g.1, f))
+
       after_is : (m : ℕ) → ((m ≡ suc i) ⊎ ((m ≡ 0) × (suc i ≡ p))) → 1 ≤ m → m ≡ suc i
       after_is m (inl e) f = e
       after_is m (inr g) f = absurd (omega (arith, g.0, f))
@@ -115,17 +126,17 @@ module _ (p q : ℕ) (shape : IsShape p q) where
       let less : k < length (all_pairs p q) = omega (arith, h, state_count p q) in
       let x = pair p q shape k in
       let known = ruled_left p q (all_pairs p q) x i (pair_rule p q (all_pairs p q) x i)
-          (ruled p q (all_pairs p q) x i) (sym (state_rule p q k i less side) ∙ e) in
+      (ruled p q (all_pairs p q) x i) (sym (state_rule p q k i less side) ∙ e) in
       let before = claim_before_left p q shape x
-          (pair_is p q shape k less) i known.0 side known.1 in
+      (pair_is p q shape k less) i known.0 side known.1 in
       let there : claim_at A (suc k) (previous p i) ≡ pair_claim p q x (i - 1)
-        = ap (claim_at A (suc k)) (previous_is p i known.0)
-            ∙ state_claim p q k (i - 1) less (omega (arith, side)) in
+      = ap (claim_at A (suc k)) (previous_is p i known.0)
+      ∙ state_claim p q k (i - 1) less (omega (arith, side)) in
       let corner : (pair_claim p q x i).corner ≡ (claim_at A (suc k) i).corner
-          = ap (λ (c : Claim). c.corner) (sym (state_claim p q k i less side)) in
+      = ap (λ (c : Claim). c.corner) (sym (state_claim p q k i less side)) in
       there ∙ before ∙ ap (outer_of q) corner
-          ∙ sym (outer_is p q (claim_at A (suc k) i).corner
-          (placed p q shape (suc k) i h side).corner)
+      ∙ sym (outer_is p q (claim_at A (suc k) i).corner
+      (placed p q shape (suc k) i h side).corner)
 
   outer_behind : (s i : ℕ) → s < length A.states → i < p → rule_at A s i ≡ Right
       → claim_at A s i ≡ further (outer A (claim_at A s (previous p i)).corner)
@@ -135,17 +146,17 @@ module _ (p q : ℕ) (shape : IsShape p q) where
       let less : k < length (all_pairs p q) = omega (arith, h, state_count p q) in
       let x = pair p q shape k in
       let known = ruled_right p q (all_pairs p q) x i (pair_rule p q (all_pairs p q) x i)
-          (ruled p q (all_pairs p q) x i) (sym (state_rule p q k i less side) ∙ e) in
+      (ruled p q (all_pairs p q) x i) (sym (state_rule p q k i less side) ∙ e) in
       let behind = claim_behind_right p q shape x (pair_is p q shape k less) i known.0 known.1 in
       let there : claim_at A (suc k) (previous p i) ≡ pair_claim p q x (i - 1)
-        = ap (claim_at A (suc k)) (previous_is p i known.0)
-            ∙ state_claim p q k (i - 1) less (omega (arith, side)) in
+      = ap (claim_at A (suc k)) (previous_is p i known.0)
+      ∙ state_claim p q k (i - 1) less (omega (arith, side)) in
       let corner : (pair_claim p q x (i - 1)).corner ≡ (claim_at A (suc k) (previous p i)).corner
-          = ap (λ (c : Claim). c.corner) (sym there) in
+      = ap (λ (c : Claim). c.corner) (sym there) in
       let outer_at = outer_is p q (claim_at A (suc k) (previous p i)).corner
-          (placed p q shape (suc k) (previous p i) h (previous_less p i side)).corner in
+      (placed p q shape (suc k) (previous p i) h (previous_less p i side)).corner in
       state_claim p q k i less side ∙ behind ∙ ap (λ g. further (outer_of q g)) corner
-          ∙ ap further (sym outer_at)
+      ∙ ap further (sym outer_at)
 
 module _ (p q : ℕ) (shape : IsShape p q) (kinds : List TileKind) (over : IsOver p q kinds) where
   abbrev B : TreeAutomaton
@@ -165,10 +176,12 @@ module _ (p q : ℕ) (shape : IsShape p q) (kinds : List TileKind) (over : IsOve
       let side = inside s i h n in
       record {
         root = λ z k less e. (sym_kind k less, (plain p q s h).off);
-        parent = (λ e. let parts = parent_at p q shape s i h side e in
-            (parts.0, λ r. parts.1 (only_root p q s r)),
+        parent = (
+          λ e. let parts = parent_at p q shape s i h side e in
+              (parts.0, λ r. parts.1 (only_root p q s r)),
           λ parts. at_parent p q shape s i h side parts.0
-              (λ z. parts.1 (subst (IsRoot B) (sym z) (root_zero p q))));
+              (λ z. parts.1 (subst (IsRoot B) (sym z) (root_zero p q))),
+        );
         child = λ c e r. child_no_root p q shape s i c h side e (only_root p q c r);
       }
     where
@@ -180,14 +193,14 @@ module _ (p q : ℕ) (shape : IsShape p q) (kinds : List TileKind) (over : IsOve
   child_type s i h n = λ c e.
       let child = plain p q c (child_there p q shape s i c h (inside s i h n) e) in
       ap (cross kinds) (type_is p q kinds over s i h) ∙ over.across
-          ∙ (λ j. (sym child.kind j, sym child.off j))
+      ∙ (λ j. (sym child.kind j, sym child.off j))
 
   pub claim_valence : (s i : ℕ) → s < length B.states → i < side_count kinds B s
       → HasClaimValence kinds B s i
   claim_valence s i h n =
       valence_is p q (claim_at B s i).corner (placed p q shape s i h (inside s i h n)).corner
-          ∙ sym over.tiles
-        ∙ sym (ap (valence kinds) (type_is p q kinds over s i h))
+      ∙ sym over.tiles
+      ∙ sym (ap (valence kinds) (type_is p q kinds over s i h))
 
   pub first_place_side : (s i : ℕ) → s < length B.states → i < side_count kinds B s
       → HasFirstPlace B s i
@@ -201,28 +214,30 @@ module _ (p q : ℕ) (shape : IsShape p q) (kinds : List TileKind) (over : IsOve
       let m = sides_are p q kinds over s h in
       let at : next (side_count kinds B s) i ≡ next p i = ap (λ k. next k i) m in
       let f = facts i side in
-      let both = last_place p q shape s i (next p i) h side f.0 f.1 in
-      (λ z. ap (rule_at B s) at ∙ both.0 (z ∙ v), λ e. both.1 (ap (rule_at B s) (sym at) ∙ e)
-          ∙ sym v)
+      let both = last_place p q shape s i (next p i) h side f.0 f.1 in (
+        λ z. ap (rule_at B s) at ∙ both.0 (z ∙ v),
+        λ e. both.1 (ap (rule_at B s) (sym at) ∙ e)
+            ∙ sym v,
+      )
     where
       facts : (j : ℕ) → j < p
           → (next p j < p) × ((next p j ≡ suc j) ⊎ ((next p j ≡ 0) × (suc j ≡ p)))
       facts j side = elim (cases_lt (suc j) p) [
-          inl inner ↦ (omega (arith, next_inner p j inner, inner), inl (next_inner p j inner))
+        | inl inner ↦ (omega (arith, next_inner p j inner, inner), inl (next_inner p j inner))
         | inr ended ↦
             let e : suc j ≡ p = omega (arith, side, ended) in
             (omega (arith, next_last p j e, side), inr (next_last p j e, e))
-        ]
+      ]
 
   pub outer_before_side : (s i : ℕ) → s < length B.states → i < side_count kinds B s
       → HasOuterBefore kinds B s i
   outer_before_side s i h n = λ e.
       ap (λ m. claim_at B s (previous m i)) (sides_are p q kinds over s h)
-          ∙ outer_before p q shape s i h (inside s i h n) e
+      ∙ outer_before p q shape s i h (inside s i h n) e
 
   pub outer_behind_side : (s i : ℕ) → s < length B.states → i < side_count kinds B s
       → HasOuterBehind kinds B s i
   outer_behind_side s i h n = λ e.
       outer_behind p q shape s i h (inside s i h n) e
-        ∙ ap (λ m. further (outer B (claim_at B s (previous m i)).corner))
-            (sym (sides_are p q kinds over s h))
+      ∙ ap (λ m. further (outer B (claim_at B s (previous m i)).corner))
+      (sym (sides_are p q kinds over s h))

@@ -43,7 +43,7 @@ module _ (p q : ℕ) (shape : IsShape p q) where
   child_of k i c h side e =
       let x = pair k in
       let parts = ruled_child p q (all_pairs p q) x i c (pair_rule p q (all_pairs p q) x i)
-          (ruled p q (all_pairs p q) x i) (sym (state_rule p q k i h side) ∙ e) in
+      (ruled p q (all_pairs p q) x i) (sym (state_rule p q k i h side) ∙ e) in
       record {
         behind = parts.0;
         before = parts.1;
@@ -74,12 +74,12 @@ module _ (p q : ℕ) (shape : IsShape p q) where
   placed zero i h side =
       let low = lowest_right p q shape in
       subst IsPlaced (sym (root_claim p q i side))
-          (record { corner = low.corner; place = low.place })
+      (record { corner = low.corner; place = low.place })
   placed (suc k) i h side =
       let less : k < length (all_pairs p q) = omega (arith, h, state_count p q) in
       let this = told p q shape (pair k) (pair_is k less) i side in
       subst IsPlaced (sym (state_claim p q k i less side))
-          (record { corner = this.corner; place = this.place })
+      (record { corner = this.corner; place = this.place })
 
 module _ (p q : ℕ) (shape : IsShape p q) (kinds : List TileKind) (over : IsOver p q kinds) where
   abbrev B : TreeAutomaton
@@ -102,7 +102,7 @@ module _ (p q : ℕ) (shape : IsShape p q) (kinds : List TileKind) (over : IsOve
   tables s h =
       let state = plain p q s h in
       let one : (kind_at kinds (state_at B s).kind).repeat ≡ 1
-          = ap (λ k. (kind_at kinds k).repeat) state.kind ∙ over.one_type in
+      = ap (λ k. (kind_at kinds k).repeat) state.kind ∙ over.one_type in
       record {
         kind = omega (arith, state.kind, over.count);
         off = omega (arith, state.off, one);
@@ -116,9 +116,10 @@ module _ (p q : ℕ) (shape : IsShape p q) (kinds : List TileKind) (over : IsOve
       record {
         child = λ i c side e. child_there p q shape s i c h (omega (arith, side, n)) e;
         claim = λ i side.
-          let there = placed p q shape s i h (omega (arith, side, n)) in
-          (omega (arith, there.corner, corner_count p q),
-              omega (arith, there.place, valence_is p q (claim_at B s i).corner there.corner));
+            let there = placed p q shape s i h (omega (arith, side, n)) in (
+              omega (arith, there.corner, corner_count p q),
+              omega (arith, there.place, valence_is p q (claim_at B s i).corner there.corner),
+            );
       }
 
   pub closed_table : IsClosedTable kinds B

@@ -52,14 +52,14 @@ module _ (p q : ℕ) where
   unfolding rule_at pair_state
   state_rule k i h g =
       ap (λ (s : TreeState). slice_index_or s.rules i Parent) (state_is k h)
-          ∙ listed_at (pair_rule p q pairs (pair k)) p i Parent g
+      ∙ listed_at (pair_rule p q pairs (pair k)) p i Parent g
 
   pub state_claim : (k i : ℕ) → k < length pairs → i < p
       → claim_at A (suc k) i ≡ pair_claim p q (pair k) i
   unfolding claim_at pair_state
   state_claim k i h g =
       ap (λ (s : TreeState). slice_index_or s.claims i no_claim) (state_is k h)
-          ∙ listed_at (pair_claim p q (pair k)) p i no_claim g
+      ∙ listed_at (pair_claim p q (pair k)) p i no_claim g
 
   -- every state has kind 0 and residue 0, and p rules and claims
   pub record IsPlain (s : TreeState) : Type 0 where
@@ -70,14 +70,21 @@ module _ (p q : ℕ) where
 
   root_plain : IsPlain (root_state p q)
   unfolding root_state
-  root_plain = record { kind = refl; off = refl; rules = length-replicate p (Child 1);
-      claims = length-replicate p (lowest q) }
+  root_plain = record {
+    kind = refl;
+    off = refl;
+    rules = length-replicate p (Child 1);
+    claims = length-replicate p (lowest q);
+  }
 
   state_plain : (x : Pair) → IsPlain (pair_state p q pairs x)
   unfolding pair_state
-  state_plain x = record
-      { kind = refl; off = refl; rules = length-listed (pair_rule p q pairs x) p;
-      claims = length-listed (pair_claim p q x) p }
+  state_plain x = record {
+    kind = refl;
+    off = refl;
+    rules = length-listed (pair_rule p q pairs x) p;
+    claims = length-listed (pair_claim p q x) p;
+  }
 
   pub plain : (s : ℕ) → s < length A.states → IsPlain (state_at A s)
   plain zero h = subst IsPlain (sym root_is) root_plain
@@ -137,8 +144,8 @@ module _ (p q : ℕ) (ps : List Pair) (x : Pair) (i : ℕ) where
       go : (i ≡ 0) ⊎ (i ≡ 0 → ⊥) → (rights p q x < i) ⊎ (i ≤ rights p q x)
           → (i + lefts p q x < p) ⊎ (p ≤ i + lefts p q x)
           → IsRuled p q ps x i (if nat_eq i 0 then Parent else if nat_le i
-              (rights p q x) then Right else if nat_le p (i + lefts p q x) then Left else Child
-              (number_of ps (child_pair p q x i)))
+          (rights p q x) then Right else if nat_le p (i + lefts p q x) then Left else Child
+          (number_of ps (child_pair p q x i)))
       go (inl e) _ _ = rw (eq-eqb i 0 e) (its_parent e)
       go (inr other) (inr h) _
           = rw (ne_eqb i 0 other, le-leb i (rights p q x) h) (its_right (omega (arith, other)) h)

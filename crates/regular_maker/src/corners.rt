@@ -8,10 +8,7 @@ use rules_data::Corner;
 use std::alloc::{AllocError, Global};
 
 /// The depth of the tile at place `t` of a corner less that of the tile at place 0.
-#[tactic(
-    auto,
-    unfolding(crate::specs::Corners::depth_at, crate::specs::Corners::half, crate::specs::Corners::parity)
-)]
+#[tactic(auto, unfolding(crate::specs::Corners::depth_at, crate::specs::Corners::half, crate::specs::Corners::parity))]
 fn depth_at(symbol: Symbol, corner: u32, t: u8) -> i8
     requires symbol { IsSymbol symbol.p symbol.q }
     requires corner { corner ≤ parity symbol.q }

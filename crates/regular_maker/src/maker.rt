@@ -38,15 +38,11 @@ fn automaton(alloc: Global, symbol: Symbol) -> Result<Automaton, AllocError>
 pub fn regular(alloc: Global, t: &Tessellation) -> Result<Rules, RegFault>
     ensures rules { IfOk result (AreRegular t.now) }
     ensures sound { IfOk result (λ r. AreSound r) }
-    ensures complete {
-        IsRegular t.now → IsInfinite (p_of t.now) (q_of t.now)
-            → IfErr result (λ fault. fault ≡ RegFault.Memory)
-    }
+    ensures complete { IsRegular t.now → IsInfinite (p_of t.now) (q_of t.now)
+        → IfErr result (λ fault. fault ≡ RegFault.Memory) }
     ensures not_regular { IsErrOf result RegFault.NotRegular ↔ (¬ (IsRegular t.now)) }
-    ensures spherical {
-        (p q : ℕ) → IsErrOf result (RegFault.Spherical p q)
-            ↔ (IsRegular t.now × (p ≡ p_of t.now) × (q ≡ q_of t.now) × IsSpherical p q)
-    }
+    ensures spherical { (p q : ℕ) → IsErrOf result (RegFault.Spherical p q)
+        ↔ (IsRegular t.now × (p ≡ p_of t.now) × (q ≡ q_of t.now) × IsSpherical p q) }
 {
     if t.kinds() != 1 || t.kind(0).repeat != 1 {
         return Err(RegFault::NotRegular);

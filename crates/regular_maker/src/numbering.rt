@@ -33,18 +33,12 @@ fn add(pairs: &mut Vec<Pair>, pair: Pair) -> Result<(), AllocError>
 }
 
 /// Adds the pairs of the children of the state of a pair, by increasing side.
-#[tactic(
-    auto,
-    using(crate::proofs::Growing::with_push),
-    unfolding(crate::specs::Automaton::with_pairs, crate::specs::States::child_pairs)
-)]
+#[tactic(auto, using(crate::proofs::Growing::with_push), unfolding(crate::specs::Automaton::with_pairs, crate::specs::States::child_pairs))]
 fn meet(symbol: Symbol, pairs: &mut Vec<Pair>, pair: Pair) -> Result<(), AllocError>
     requires symbol { IsSymbol symbol.p symbol.q }
     requires pair { IsPair symbol.p symbol.q pair }
-    ensures {
-        OnOk result (pairs.new.items
-            ≡ with_pairs pairs.old.items (child_pairs symbol.p symbol.q pair symbol.p))
-    }
+    ensures { OnOk result (pairs.new.items
+        ≡ with_pairs pairs.old.items (child_pairs symbol.p symbol.q pair symbol.p)) }
 {
     for side in 0..symbol.p {
         if symbol.is_child(pair, side) {

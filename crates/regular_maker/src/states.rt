@@ -73,11 +73,7 @@ fn pair_state(
 
 /// All states: the root, and behind it those of the pairs.
 #[tactic(auto, unfolding(crate::specs::Automaton::all_states))]
-pub fn all_states(
-    alloc: Global,
-    symbol: Symbol,
-    pairs: &[Pair],
-) -> Result<Vec<State>, AllocError>
+pub fn all_states(alloc: Global, symbol: Symbol, pairs: &[Pair]) -> Result<Vec<State>, AllocError>
     requires symbol { IsSymbol symbol.p symbol.q }
     requires few { length pairs.now ≤ 16384 }
     requires pairs { All (IsPair symbol.p symbol.q) pairs.now }

@@ -53,10 +53,7 @@ impl Symbol {
     }
 
     /// The corner at the other end of the key edge of a corner type.
-    #[tactic(
-        auto,
-        unfolding(crate::specs::Corners::outer_of, crate::specs::Corners::half, crate::specs::Corners::parity)
-    )]
+    #[tactic(auto, unfolding(crate::specs::Corners::outer_of, crate::specs::Corners::half, crate::specs::Corners::parity))]
     pub fn outer(self, corner: u32) -> Claim
         requires { IsSymbol self.p self.q }
         ensures value { result ≡ outer_of self.q corner }

@@ -29,9 +29,7 @@ fn tessellation(kinds: Vec<Kind>) -> Option<Tessellation> {
 
 // The tessellation {p,q}.
 fn symbol(alloc: Global, p: u8, q: u8) -> Result<Option<Tessellation>, AllocError> {
-    Ok(tessellation(
-        vec![in alloc; kind(alloc, p, &[(0, 0)], &[q])?]?,
-    ))
+    Ok(tessellation(vec![in alloc; kind(alloc, p, &[(0, 0)], &[q])?]?))
 }
 
 fn are_claims(claims: &[Claim], want: &[(u32, u8)]) -> bool {
@@ -109,32 +107,70 @@ fn makes_the_tables_of_heptagons(rt: HostRuntime) -> Result<(), Fail> {
     Ok(())
 }
 
-// The number of states of {p,q}: q - 1 for even q, 2q - 3 for odd q, and one more for triangles.
-fn state_count(p: u8, q: u8) -> usize {
-    let tiles = q as usize;
-    let others = if q % 2 == 0 { tiles } else { 2 * tiles - 2 };
-    if p == 3 { others } else { others - 1 }
-}
-
+// The number of states is q - 1 for even q and 2q - 3 for odd q, and one more for triangles.
 #[test]
 fn has_the_number_of_states(rt: HostRuntime) -> Result<(), Fail> {
     let alloc = rt.alloc();
-    let symbols = [
-        (3, 6), (3, 7), (3, 8), (3, 9), (3, 10), (3, 31), (3, 32), (3, 62), (3, 63), (3, 64),
-        (4, 4), (4, 5), (4, 6), (4, 7), (4, 8), (4, 63), (4, 64), (5, 4), (5, 5), (5, 6),
-        (5, 63), (5, 64), (6, 3), (6, 4), (6, 5), (6, 6), (6, 7), (7, 3), (7, 4), (7, 7),
-        (8, 3), (8, 4), (8, 8), (9, 3), (9, 5), (10, 3), (12, 12), (16, 3), (17, 17), (31, 32),
-        (32, 31), (48, 3), (60, 5), (63, 3), (63, 63), (63, 64), (64, 3), (64, 4), (64, 63),
-        (64, 64),
+    let cases = [
+        (3, 6, 6),
+        (3, 7, 12),
+        (3, 8, 8),
+        (3, 9, 16),
+        (3, 10, 10),
+        (3, 31, 60),
+        (3, 32, 32),
+        (3, 62, 62),
+        (3, 63, 124),
+        (3, 64, 64),
+        (4, 4, 3),
+        (4, 5, 7),
+        (4, 6, 5),
+        (4, 7, 11),
+        (4, 8, 7),
+        (4, 63, 123),
+        (4, 64, 63),
+        (5, 4, 3),
+        (5, 5, 7),
+        (5, 6, 5),
+        (5, 63, 123),
+        (5, 64, 63),
+        (6, 3, 3),
+        (6, 4, 3),
+        (6, 5, 7),
+        (6, 6, 5),
+        (6, 7, 11),
+        (7, 3, 3),
+        (7, 4, 3),
+        (7, 7, 11),
+        (8, 3, 3),
+        (8, 4, 3),
+        (8, 8, 7),
+        (9, 3, 3),
+        (9, 5, 7),
+        (10, 3, 3),
+        (12, 12, 11),
+        (16, 3, 3),
+        (17, 17, 31),
+        (31, 32, 31),
+        (32, 31, 59),
+        (48, 3, 3),
+        (60, 5, 7),
+        (63, 3, 3),
+        (63, 63, 123),
+        (63, 64, 63),
+        (64, 3, 3),
+        (64, 4, 3),
+        (64, 63, 123),
+        (64, 64, 63),
     ];
-    for (p, q) in symbols {
+    for (p, q, states) in cases {
         let Some(tess) = symbol(alloc, p, q)? else {
             panic!(rt; "no tessellation");
         };
         let Ok(rules) = regular(alloc, &tess) else {
             panic!(rt; "no rules of {p},{q}");
         };
-        assert_eq!(rt; rules.automaton().states.len(), state_count(p, q), "{p},{q}");
+        assert_eq!(rt; rules.automaton().states.len(), states, "{p},{q}");
         assert_eq!(rt; rules.tessellation().kinds(), 1);
     }
     Ok(())

@@ -11,21 +11,26 @@ pub unreachable-requires : goal.unreachable-requires
 unreachable-requires c =
     let tess = c.args.t.now in
     let p : c.sides.result ≡ p_of tess
-      = c.sides.ensures.value
-          ∙ ap (λ (d : ℕ × ℕ). (kind_at tess d.0).sides) c.start-start.ensures.value in
+    = c.sides.ensures.value
+    ∙ ap (λ (d : ℕ × ℕ). (kind_at tess d.0).sides) c.start-start.ensures.value in
     let q : c.valence.result ≡ q_of tess = c.valence.ensures.value
-        ∙ ap (valence tess) c.start-start.ensures.value in
+    ∙ ap (valence tess) c.start-start.ensures.value in
     let regular : IsRegular tess
-        = record { one_kind = omega arith;
-        one_type = omega (arith, ap (λ (k : TileKind). k.repeat) c.kind.ensures,
-        ap (λ (k : TileKind). k.repeat) c.behind-t.view_is) } in
+    = record {
+      one_kind = omega arith;
+      one_type = omega (
+        arith,
+        ap (λ (k : TileKind). k.repeat) c.kind.ensures,
+        ap (λ (k : TileKind). k.repeat) c.behind-t.view_is,
+      );
+    } in
     let infinite : IsInfinite (p_of tess) (q_of tess)
-        = subst (λ n. 4 ≤ (p_of tess - 2) * (n - 2)) q
-        (subst (λ n. 4 ≤ (n - 2) * (c.valence.result - 2)) p c.if-p-q-lt4.false) in
+    = subst (λ n. 4 ≤ (p_of tess - 2) * (n - 2)) q
+    (subst (λ n. 4 ≤ (n - 2) * (c.valence.result - 2)) p c.if-p-q-lt4.false) in
     let fits = accepted tess c.kinds.ensures.valid regular infinite in
     let made : c.in_ok-automaton.field-0 ≡ regular_automaton (p_of tess) (q_of tess)
-        = c.in_ok-automaton.ensures ∙ ap₂ regular_automaton p q in
+    = c.in_ok-automaton.ensures ∙ ap₂ regular_automaton p q in
     let there : IsAccepted c.in_ok-tess.tess c.in_ok-automaton.field-0
-      = subst (λ (t : List TileKind). IsAccepted t c.in_ok-automaton.field-0)
-          (sym c.in_ok-tess.ensures) (subst (IsAccepted tess) (sym made) fits) in
+    = subst (λ (t : List TileKind). IsAccepted t c.in_ok-automaton.field-0)
+    (sym c.in_ok-tess.ensures) (subst (IsAccepted tess) (sym made) fits) in
     absurd (false≢true (c.in-Err.ensures.exactly.1 there))

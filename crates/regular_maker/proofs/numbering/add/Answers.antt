@@ -10,4 +10,4 @@ returns-else-index_of-len c =
     let few = index_few c.args.pairs.now.items c.args.pair in
     let same = ap (λ (xs : List Pair). index_in xs c.args.pair) c.deref.ensures.value in
     sym (with_old 0 c.args.pairs.now.items c.args.pair
-        (omega (arith, few, same, c.index_of.ensures, c.if-index_of-len.false)))
+    (omega (arith, few, same, c.index_of.ensures, c.if-index_of-len.false)))

@@ -17,7 +17,7 @@ loop-n-preserved c =
     let made = c.in_ok-pair_state.ensures in
     let step : suc c.loop-n.n ≡ c.loop-n.n + 1 = omega arith in
     let state : c.in_ok-pair_state.field-0 ≡ nth_state p q pairs c.loop-n.n
-      = made ∙ ap (pair_state p q pairs) (get_or_default pairs c.loop-n.n _ (first_pair q) less) in
+    = made ∙ ap (pair_state p q pairs) (get_or_default pairs c.loop-n.n _ (first_pair q) less) in
     c.in_ok-push.ensures.items
-      ∙ ap₂ (λ (xs : List TreeState) (x : TreeState). xs ++ x ∷ []) c.loop-n.invariant state
-      ∙ ap (λ m. root_state p q ∷ listed (nth_state p q pairs) m) step
+    ∙ ap₂ (λ (xs : List TreeState) (x : TreeState). xs ++ x ∷ []) c.loop-n.invariant state
+    ∙ ap (λ m. root_state p q ∷ listed (nth_state p q pairs) m) step

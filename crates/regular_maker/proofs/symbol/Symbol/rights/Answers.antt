@@ -8,24 +8,27 @@ pub returns-then-claim-self-clause-value : goal.returns-then-claim-self-clause-v
 unfolding rights
 returns-then-claim-self-clause-value c =
     right_end c.args.self.q c.loop-run.claim (c.args.self.p - 1 - c.loop-run.run) c.loop-run.run
-        (right_run c.args.self.q c.args.pair.first (c.args.self.p - 1))
-      (omega arith) c.loop-run.invariant
+    (right_run c.args.self.q c.args.pair.first (c.args.self.p - 1))
+    (omega arith) c.loop-run.invariant
 
 pub loop-run-preserved : goal.loop-run-preserved
 loop-run-preserved c =
     let more = right_more c.args.self.q c.loop-run.claim (c.args.self.p - 1 - c.loop-run.run)
-        (c.args.self.p - 1 - (c.loop-run.run + 1)) c.loop-run.run
-      (right_run c.args.self.q c.args.pair.first (c.args.self.p - 1)) (omega arith)
-          (omega arith) c.loop-run.invariant in
+    (c.args.self.p - 1 - (c.loop-run.run + 1)) c.loop-run.run
+    (right_run c.args.self.q c.args.pair.first (c.args.self.p - 1)) (omega arith)
+    (omega arith) c.loop-run.invariant in
     subst (λ (d : Claim).
-        c.loop-run.run + 1 + right_run c.args.self.q d (c.args.self.p - 1 - (c.loop-run.run + 1))
-        ≡ right_run c.args.self.q c.args.pair.first (c.args.self.p - 1))
-      (sym c.beyond-claim.ensures) more
+    c.loop-run.run + 1 + right_run c.args.self.q d (c.args.self.p - 1 - (c.loop-run.run + 1))
+    ≡ right_run c.args.self.q c.args.pair.first (c.args.self.p - 1))
+    (sym c.beyond-claim.ensures) more
 
 pub returns-clause-value : goal.returns-clause-value
 unfolding rights
 returns-clause-value c =
-    omega (arith, right_full c.args.self.q c.loop-run.claim
-        (c.args.self.p - 1 - c.loop-run.run) c.loop-run.run
-        (right_run c.args.self.q c.args.pair.first (c.args.self.p - 1))
-        (omega arith) c.loop-run.invariant)
+    omega (
+      arith,
+      right_full c.args.self.q c.loop-run.claim
+          (c.args.self.p - 1 - c.loop-run.run) c.loop-run.run
+          (right_run c.args.self.q c.args.pair.first (c.args.self.p - 1))
+          (omega arith) c.loop-run.invariant,
+    )
