@@ -8,14 +8,14 @@ use rules_data::Corner;
 use std::alloc::{AllocError, Global};
 
 /// The depth of the tile at place `t` of a corner less that of the tile at place 0.
-#[tactic(auto, unfolding(crate::specs::Corners::depth_at, crate::specs::Corners::half, crate::specs::Corners::parity))]
+#[tactic(auto, unfolding(crate::specs::Corners::depth_at))]
 fn depth_at(symbol: Symbol, corner: u32, t: u8) -> i8
     requires symbol { IsSymbol symbol.p symbol.q }
-    requires corner { corner ≤ parity symbol.q }
+    requires corner { corner ≤ 1 }
     requires place { t < symbol.q }
     ensures { result ≡ depth_at symbol.q corner t }
 {
-    let half = symbol.q / 2;
+    let half = symbol.half();
     if t <= half {
         -(t as i8)
     } else {
@@ -24,12 +24,12 @@ fn depth_at(symbol: Symbol, corner: u32, t: u8) -> i8
 }
 
 /// A corner type.
-#[tactic(auto, unfolding(crate::specs::Corners::parity))]
 fn corner_type(alloc: Global, symbol: Symbol, corner: u32) -> Result<Corner, AllocError>
     requires symbol { IsSymbol symbol.p symbol.q }
     requires corner { corner ≤ parity symbol.q }
     ensures { IfOk result (λ g. g ≡ corner_type symbol.q corner) }
 {
+    let parity = symbol.parity();
     let mut offsets = Vec::with_capacity(alloc, symbol.q as usize)?;
     for t in 0..symbol.q {
         offsets.push(depth_at(symbol, corner, t))?;
@@ -37,18 +37,17 @@ fn corner_type(alloc: Global, symbol: Symbol, corner: u32) -> Result<Corner, All
     Ok(Corner {
         offsets,
         outer: symbol.outer(corner),
-        rank: (symbol.q % 2) as u32 - corner,
+        rank: parity - corner,
     })
 }
 
 /// All corner types.
-#[tactic(auto, unfolding(crate::specs::Corners::parity))]
 pub fn corner_types(alloc: Global, symbol: Symbol) -> Result<Vec<Corner>, AllocError>
     requires { IsSymbol symbol.p symbol.q }
     ensures { IfOk result (λ corners. corners.items ≡ corner_types symbol.q) }
 {
     let mut corners = Vec::with_capacity(alloc, 2)?;
-    for corner in 0..(symbol.q % 2) as u32 + 1 {
+    for corner in 0..symbol.parity() + 1 {
         corners.push(corner_type(alloc, symbol, corner)?)?;
     }
     Ok(corners)

@@ -25,16 +25,16 @@ fn automaton(alloc: Global, symbol: Symbol) -> Result<Automaton, AllocError>
         states: all_states(alloc, symbol, &pairs)?,
         corners: corner_types(alloc, symbol)?,
         roots: vec![in alloc; 0]?,
-        scale: (symbol.q % 2) as u32 + 1,
+        scale: symbol.parity() + 1,
     })
 }
 
-/// The rules of a regular tessellation {p,q} with infinitely many tiles, that is with (p - 2)(q -
-/// 2) of at least 4: a copy of the tessellation, and the automaton whose states are the pairs of
-/// claims at both sides of the parent side, numbered as they are first met. For each such
-/// tessellation they come or memory runs out. NotRegular comes exactly where there are two or more
-/// kinds or a repeat over 1, and Spherical, with p and q, exactly where the tessellation is regular
-/// and has finitely many tiles.
+/// The rules of a regular tessellation {p,q} that has infinitely many tiles, that is of which
+/// (p - 2)(q - 2) is at least 4: a copy of the tessellation, and the automaton whose states are the
+/// pairs of claims at both sides of the parent side, numbered in the order in which they are first
+/// met. For each such tessellation they come, or memory runs out. NotRegular comes exactly where
+/// there are two or more kinds or a repeat over 1. Spherical, with p and q, comes exactly where the
+/// tessellation is regular and has finitely many tiles.
 pub fn regular(alloc: Global, t: &Tessellation) -> Result<Rules, RegFault>
     ensures rules { IfOk result (AreRegular t.now) }
     ensures sound { IfOk result (λ r. AreSound r) }
@@ -48,16 +48,13 @@ pub fn regular(alloc: Global, t: &Tessellation) -> Result<Rules, RegFault>
         return Err(RegFault::NotRegular);
     }
     let start = t.start(0);
-    let symbol = Symbol {
-        p: t.sides(start),
-        q: t.valence(start),
-    };
-    let Symbol { p, q } = symbol;
+    let p = t.sides(start);
+    let q = t.valence(start);
     if (p as u16 - 2) * (q as u16 - 2) < 4 {
         return Err(RegFault::Spherical { p, q });
     }
     let tess = t.copy(alloc)?;
-    match check(tess, automaton(alloc, symbol)?) {
+    match check(tess, automaton(alloc, Symbol { p, q })?) {
         Ok(rules) => Ok(rules),
         Err((_tess, _automaton, _broken)) => unreachable!(),
     }

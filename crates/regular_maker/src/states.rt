@@ -32,6 +32,7 @@ fn pair_rule(symbol: Symbol, pairs: &[Pair], pair: Pair, side: u8) -> Rule
 /// The root: each side leads to a child in state 1.
 #[tactic(auto, unfolding(crate::specs::Automaton::root_state))]
 fn root_state(alloc: Global, symbol: Symbol) -> Result<State, AllocError>
+    requires { IsSymbol symbol.p symbol.q }
     ensures { IfOk result (λ s. s ≡ root_state symbol.p symbol.q) }
 {
     let sides = symbol.p as usize;

@@ -1,6 +1,6 @@
 // The symbol {p,q} of a regular tessellation, and the claims round its corners.
 ghost use Rattle.std.specs.Prelude.{◌≡◌, ◌+◌, ◌-◌, ◌<◌, ◌≤◌, IsTrue};
-ghost use Rattle.regular_maker.specs.Corners.{outer_of};
+ghost use Rattle.regular_maker.specs.Corners.{half, parity, outer_of};
 ghost use Rattle.regular_maker.specs.States.{pair_between, lowest, beyond, right_claim, right_run, left_claim, left_run, rights, lefts, pair_claim, is_child, child_pair, first_pair};
 ghost use Rattle.regular_maker.specs.Pairs.{IsPair};
 ghost use Rattle.regular_maker.specs.Regular.{IsSymbol};
@@ -41,28 +41,50 @@ fn pair_between(before: Claim, behind: Claim) -> Pair
 }
 
 impl Symbol {
+    /// Half of `q`, rounded down: the place opposite to place 0.
+    #[tactic(auto, unfolding(crate::specs::Corners::half))]
+    pub fn half(self) -> u8
+        requires { IsSymbol self.p self.q }
+        ensures value { result ≡ half self.q }
+        ensures at_least { 1 ≤ result }
+        ensures at_most { result ≤ 32 }
+    {
+        self.q / 2
+    }
+
+    /// 0 for even `q` and 1 for odd `q`: the greatest corner type.
+    #[tactic(auto, unfolding(crate::specs::Corners::parity))]
+    pub fn parity(self) -> u32
+        ensures value { result ≡ parity self.q }
+        ensures at_most { result ≤ 1 }
+    {
+        (self.q % 2) as u32
+    }
+
     /// The claim of a corner of which this tile is the lowest.
-    #[tactic(auto, unfolding(crate::specs::States::lowest, crate::specs::Corners::half))]
+    #[tactic(auto, unfolding(crate::specs::States::lowest))]
     pub fn lowest(self) -> Claim
-        ensures { result ≡ lowest self.q }
+        requires { IsSymbol self.p self.q }
+        ensures value { result ≡ lowest self.q }
+        ensures place { result.place < 64 }
     {
         Claim {
             corner: 0,
-            place: self.q / 2,
+            place: self.half(),
         }
     }
 
     /// The corner at the other end of the key edge of a corner type.
-    #[tactic(auto, unfolding(crate::specs::Corners::outer_of, crate::specs::Corners::half, crate::specs::Corners::parity))]
+    #[tactic(auto, unfolding(crate::specs::Corners::outer_of))]
     pub fn outer(self, corner: u32) -> Claim
         requires { IsSymbol self.p self.q }
         ensures value { result ≡ outer_of self.q corner }
         ensures place { result.place < 64 }
     {
-        let other = ((self.q % 2) as u32).saturating_sub(corner);
+        let other = self.parity().saturating_sub(corner);
         Claim {
             corner: other,
-            place: self.q / 2 - 1 + other as u8,
+            place: self.half() - 1 + other as u8,
         }
     }
 
@@ -179,7 +201,6 @@ impl Symbol {
     }
 
     /// The pair of the children of the root.
-    #[tactic(auto, unfolding(crate::specs::States::lowest, crate::specs::Corners::half))]
     pub fn first_pair(self) -> Pair
         requires { IsSymbol self.p self.q }
         ensures { result ≡ first_pair self.q }

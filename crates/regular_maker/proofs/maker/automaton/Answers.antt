@@ -30,13 +30,13 @@ all_states-requires-clause-pairs c = λ k d h.
     subst (IsPair p q) (sym e) there
 
 pub returns : goal.returns
-unfolding parity
 returns c =
     let p = c.args.symbol.p in
     let q = c.args.symbol.q in
     let same : c.deref.result.now ≡ all_pairs p q = c.deref.ensures.value ∙ c.in_ok-pairs.ensures in
     let states = c.in_ok-all_states.ensures ∙ ap (all_states p q) same in
-    let scale : q % 2 + 1 ≡ suc (q % 2) = omega arith in
+    let step : c.parity.result + 1 ≡ suc c.parity.result = omega arith in
+    let scale : c.parity.result + 1 ≡ suc (parity q) = step ∙ ap suc c.parity.ensures.value in
     λ i. record {
       states = states i;
       corners = c.in_ok-corner_types.ensures i;

@@ -10,10 +10,10 @@ use Rattle.regular_maker.proofs.maker.regular.Goals as goal
 pub unreachable-requires : goal.unreachable-requires
 unreachable-requires c =
     let tess = c.args.t.now in
-    let p : c.sides.result ≡ p_of tess
-    = c.sides.ensures.value
+    let p : c.sides-p.result ≡ p_of tess
+    = c.sides-p.ensures.value
     ∙ ap (λ (d : ℕ × ℕ). (kind_at tess d.0).sides) c.start-start.ensures.value in
-    let q : c.valence.result ≡ q_of tess = c.valence.ensures.value
+    let q : c.valence-q.result ≡ q_of tess = c.valence-q.ensures.value
     ∙ ap (valence tess) c.start-start.ensures.value in
     let regular : IsRegular tess
     = record {
@@ -26,7 +26,7 @@ unreachable-requires c =
     } in
     let infinite : IsInfinite (p_of tess) (q_of tess)
     = subst (λ n. 4 ≤ (p_of tess - 2) * (n - 2)) q
-    (subst (λ n. 4 ≤ (n - 2) * (c.valence.result - 2)) p c.if-p-q-lt4.false) in
+    (subst (λ n. 4 ≤ (n - 2) * (c.valence-q.result - 2)) p c.if-p-q-lt4.false) in
     let fits = accepted tess c.kinds.ensures.valid regular infinite in
     let made : c.in_ok-automaton.field-0 ≡ regular_automaton (p_of tess) (q_of tess)
     = c.in_ok-automaton.ensures ∙ ap₂ regular_automaton p q in

@@ -26,5 +26,5 @@ returns-else-self-i-clause-place c =
     let below = (told c.args.self.p c.args.self.q
     (shape_of c.args.self.p c.args.self.q c.requires.symbol) c.args.pair c.requires.pair c.args.i c.requires.side).place in
     let e = claim_middle c.args.self.p c.args.self.q c.args.pair c.args.i (omega arith)
-    (omega arith) ∙ sym c.lowest.ensures in
+    (omega arith) ∙ sym c.lowest.ensures.value in
     subst (λ (d : Claim). d.place < c.args.self.q) e below
