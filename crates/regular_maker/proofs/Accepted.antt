@@ -1,9 +1,8 @@
 -- The automaton of {p,q} meets the twelve conditions over each regular file of this symbol.
-use Rattle.std.proofs.Common.{◌≡◌, ℕ, ◌<◌, ◌≤◌, suc, List, length, arith}
+use Rattle.std.proofs.Common.{ℕ, List, arith}
 use Rattle.tile_model.specs.Tessellations.{TileKind}
 use Rattle.tile_model.specs.Validity.{IsValid}
 use Rattle.tree_model.specs.Conditions.{IsAccepted}
-use Rattle.regular_maker.specs.Corners.{parity}
 use Rattle.regular_maker.specs.Regular.{IsRegular, IsInfinite, p_of, q_of}
 use Rattle.regular_maker.specs.Automaton.{regular_automaton}
 use Rattle.regular_maker.proofs.Shapes.{IsShape, shape_of}

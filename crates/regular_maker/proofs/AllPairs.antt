@@ -1,10 +1,9 @@
 -- The list of all pairs: it begins with the pair of the children of the root, and the pair of each
 -- child of each state is in it.
-use Rattle.std.proofs.Common.{◌≡◌, ◌≢◌, ℕ, zero, suc, ◌+◌, ◌-◌, ◌*◌, ◌<◌, ◌≤◌, ◌⊎◌, inl, inr, List, [], ◌∷◌, length, get_or, refl, sym, ap, ◌∙◌, subst, arith, true, false}
+use Rattle.std.proofs.Common.{◌≡◌, ℕ, zero, suc, ◌+◌, ◌-◌, ◌<◌, ◌≤◌, inl, inr, List, [], ◌∷◌, length, refl, sym, ap, ◌∙◌, subst, arith, true}
 use Rattle.std.proofs.lemmas.Bool.{cases_lt}
-use Rattle.regular_maker.specs.Pairs.{IsPair}
 use Rattle.regular_maker.specs.States.{is_child, child_pair, first_pair}
-use Rattle.regular_maker.specs.Automaton.{index_in, pair_at, pairs_met, all_pairs}
+use Rattle.regular_maker.specs.Automaton.{pair_at, pairs_met, all_pairs}
 use Rattle.regular_maker.specs.declared.symbol.Pair.{Pair}
 use Rattle.regular_maker.proofs.Shapes.{IsShape}
 use Rattle.regular_maker.proofs.Growing.{Grows, IsIn, pairs_met_at, IsList, in_grows, at_in, met_more, met_done, met_grows, met_list}

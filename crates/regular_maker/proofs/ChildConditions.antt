@@ -1,20 +1,18 @@
 -- The claims of a child are those beside its side, one place on, and it lies one deeper than its
 -- parent round both corners.
-use Rattle.std.proofs.Common.{◌≡◌, ◌≢◌, ℕ, zero, suc, ◌+◌, ◌-◌, ◌*◌, ◌<◌, ◌≤◌, List, length, refl, sym, ap, ap₂, ◌∙◌, subst, arith, pos, ◌+ℤ◌}
+use Rattle.std.proofs.Common.{◌≡◌, ℕ, zero, suc, ◌-◌, ◌<◌, ◌≤◌, List, length, refl, sym, ap, ◌∙◌, subst, arith, pos, ◌+ℤ◌}
 use Rattle.tile_model.specs.Tessellations.{TileKind}
 use Rattle.tree_model.specs.declared.Rule.TheVariants.{Child}
 use Rattle.tree_model.specs.declared.Claim.{Claim}
 use Rattle.tree_model.specs.Automata.{TreeAutomaton, rule_at, claim_at, offset, side_count, previous, further}
-use Rattle.tree_model.specs.Conditions.{HasChildClaims, KeepsClaims}
-use Rattle.regular_maker.specs.Corners.{half, parity, depth_at}
-use Rattle.regular_maker.specs.Pairs.{IsPair}
-use Rattle.regular_maker.specs.States.{lowest, nearer, rights, lefts, pair_claim, pair_between, child_pair, first_pair}
-use Rattle.regular_maker.specs.Automaton.{index_in, pair_at, all_pairs, regular_automaton}
+use Rattle.tree_model.specs.Conditions.{KeepsClaims}
+use Rattle.regular_maker.specs.States.{lowest, nearer, pair_claim, child_pair, first_pair}
+use Rattle.regular_maker.specs.Automaton.{index_in, all_pairs, regular_automaton}
 use Rattle.regular_maker.specs.declared.symbol.Pair.{Pair}
 use Rattle.regular_maker.proofs.Shapes.{IsShape}
 use Rattle.regular_maker.proofs.Claims.{claim_at_start, claim_at_end}
 use Rattle.regular_maker.proofs.Children.{IsOpen, root_open, child_open, deeper_behind, deeper_ahead}
-use Rattle.regular_maker.proofs.Growing.{IsIn, in_at}
+use Rattle.regular_maker.proofs.Growing.{in_at}
 use Rattle.regular_maker.proofs.AllPairs.{all_some, all_first}
 use Rattle.regular_maker.proofs.Tables.{state_count, root_claim, state_claim, offset_is}
 use Rattle.regular_maker.proofs.TableCondition.{pair, pair_is, IsChildOf, child_of, root_child, child_there}

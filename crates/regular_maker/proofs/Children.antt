@@ -1,17 +1,16 @@
 -- The child between two claims: it lies one deeper round both corners, and its pair is again one.
-use Rattle.std.proofs.Common.{◌≡◌, ◌≢◌, ℕ, zero, suc, ◌+◌, ◌-◌, ◌*◌, ◌<◌, ◌≤◌, ◌⊎◌, inl, inr, refl, sym, ap, ◌∙◌, subst, arith, true, false, pos, ◌+ℤ◌, ◌-ℤ◌}
-use Rattle.std.specs.Prelude.{nat_le, if◌then◌else◌}
+use Rattle.std.proofs.Common.{◌≡◌, ℕ, suc, ◌+◌, ◌-◌, ◌*◌, ◌<◌, ◌≤◌, ◌⊎◌, inl, inr, refl, sym, ap, ◌∙◌, subst, arith, pos, ◌+ℤ◌, ◌-ℤ◌}
 use Rattle.std.proofs.lemmas.Int.{ints}
-use Rattle.std.proofs.lemmas.Bool.{cases_lt, cases_eq, le-leb, lt-leb}
+use Rattle.std.proofs.lemmas.Bool.{cases_lt, le-leb, lt-leb}
 use Rattle.tree_model.specs.declared.Claim.{Claim}
 use Rattle.tree_model.specs.Automata.{further}
-use Rattle.regular_maker.specs.Corners.{half, parity, outer_of, depth_at}
-use Rattle.regular_maker.specs.States.{lowest, beyond, nearer, right_claim, right_run, left_claim, left_run, rights, lefts, pair_claim, pair_between, child_pair, first_pair}
+use Rattle.regular_maker.specs.Corners.{half, outer_of, depth_at}
+use Rattle.regular_maker.specs.States.{lowest, beyond, nearer, right_claim, left_claim, rights, lefts, pair_claim, child_pair, first_pair}
 use Rattle.regular_maker.specs.Pairs.{IsPair, IsBehind, IsAhead, AreNear}
 use Rattle.regular_maker.specs.declared.symbol.Pair.{Pair}
-use Rattle.regular_maker.proofs.Shapes.{IsShape, IsRight, IsLeft, right_of, left_of, half_least, lowest_right, lowest_left, right_not_first, left_not_last}
-use Rattle.regular_maker.proofs.Runs.{right_last, right_ends, left_first, left_stops, right_stays, left_stays, runs_apart}
-use Rattle.regular_maker.proofs.Claims.{IsTold, told, claim_right, claim_left, claim_middle}
+use Rattle.regular_maker.proofs.Shapes.{IsShape, IsRight, IsLeft, half_least, lowest_right, lowest_left, right_not_first, left_not_last}
+use Rattle.regular_maker.proofs.Runs.{left_first, runs_apart}
+use Rattle.regular_maker.proofs.Claims.{told, claim_right, claim_left, claim_middle}
 
 -- depths before the lowest tile, at it and behind it
 pub depth_down : (q g t : ℕ) → t ≤ half q → depth_at q g t ≡ pos 0 -ℤ pos t

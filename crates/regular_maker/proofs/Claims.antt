@@ -1,14 +1,13 @@
 -- The claims of the state of a pair: which have place 0, which have the last place, and what stands
 -- beside the runs.
-use Rattle.std.proofs.Common.{◌≡◌, ◌≢◌, ℕ, zero, suc, ◌+◌, ◌-◌, ◌*◌, ◌<◌, ◌≤◌, ◌⊎◌, inl, inr, refl, sym, ap, ◌∙◌, subst, arith, true, false, ◌↔◌}
-use Rattle.std.specs.Prelude.{nat_le, if◌then◌else◌}
-use Rattle.std.proofs.lemmas.Bool.{cases_lt, cases_eq, le-leb, lt-leb}
+use Rattle.std.proofs.Common.{◌≡◌, ◌≢◌, ℕ, suc, ◌+◌, ◌-◌, ◌<◌, ◌≤◌, ◌⊎◌, inl, inr, refl, sym, ap, ◌∙◌, subst, arith}
+use Rattle.std.proofs.lemmas.Bool.{cases_lt, le-leb, lt-leb}
 use Rattle.tree_model.specs.declared.Claim.{Claim}
-use Rattle.regular_maker.specs.Corners.{half, parity, outer_of}
+use Rattle.regular_maker.specs.Corners.{parity, outer_of}
 use Rattle.regular_maker.specs.States.{lowest, beyond, right_claim, right_run, left_claim, left_run, rights, lefts, pair_claim}
 use Rattle.regular_maker.specs.Pairs.{IsPair}
 use Rattle.regular_maker.specs.declared.symbol.Pair.{Pair}
-use Rattle.regular_maker.proofs.Shapes.{IsShape, IsRight, IsLeft, right_of, left_of, half_least, lowest_right, lowest_left, right_not_first, left_not_last}
+use Rattle.regular_maker.proofs.Shapes.{IsShape, IsRight, IsLeft, right_of, left_of, lowest_right, lowest_left, right_not_first, left_not_last}
 use Rattle.regular_maker.proofs.Runs.{right_last, right_ends, left_first, left_stops, right_stays, left_stays, runs_apart}
 
 module _ (p q : ℕ) where

@@ -1,21 +1,16 @@
 -- The list of the pairs that are met: it grows at its end, has no doubles, holds pairs of states
 -- alone, and holds the pair of each child that was met.
-use Rattle.std.proofs.Common.{◌≡◌, ◌≢◌, ℕ, zero, suc, ◌+◌, ◌-◌, ◌*◌, ◌<◌, ◌≤◌, ◌⊎◌, inl, inr, List, [], ◌∷◌, ◌++◌, length, get_or, map, refl, sym, ap, ◌∙◌, subst, arith, true, false, Bool}
-use Rattle.std.specs.Prelude.{nat_eq, nat_lt, ◌&&◌, ◌||◌, if◌then◌else◌}
-use Rattle.std.specs.List.{list_any, IsDistinct}
-use Rattle.std.proofs.lemmas.Bool.{cases_lt, cases_Bool, lt-ltb, le-ltb, ltb-true, ltb-false, eqb-true, eq-eqb, ne_eqb, and_parts, and_from, or_cases}
-use Rattle.std.proofs.lemmas.List.{get_or_append_left, get_or_push, length_push, get_or_default, get_or-map, length-map}
-use Rattle.std.proofs.lemmas.Map.Keys.{IsDistinct-from_apart}
-use Rattle.std.proofs.lemmas.Map.Steps.{length-le_from_distinct_below}
-use Rattle.tree_model.specs.declared.Claim.{Claim}
-use Rattle.regular_maker.specs.Corners.{half, parity}
+use Rattle.std.proofs.Common.{◌≡◌, ◌≢◌, ℕ, zero, suc, ◌+◌, ◌<◌, ◌≤◌, ◌⊎◌, inl, inr, List, [], ◌∷◌, ◌++◌, length, get_or, refl, sym, ap, ◌∙◌, subst, arith, true, false}
+use Rattle.std.specs.Prelude.{nat_lt}
+use Rattle.std.proofs.lemmas.Bool.{cases_lt, cases_Bool, lt-ltb, le-ltb, ltb-true, and_parts, and_from}
+use Rattle.std.proofs.lemmas.List.{get_or_append_left, get_or_push, length_push}
 use Rattle.regular_maker.specs.Pairs.{IsPair}
 use Rattle.regular_maker.specs.States.{rights, lefts, is_child, child_pair, child_pairs, first_pair}
-use Rattle.regular_maker.specs.Automaton.{index_in, with_pair, with_pairs, pair_at, pairs_met, all_pairs}
+use Rattle.regular_maker.specs.Automaton.{index_in, with_pair, with_pairs, pair_at, pairs_met}
 use Rattle.regular_maker.specs.declared.symbol.Pair.{Pair}
 use Rattle.regular_maker.proofs.Shapes.{IsShape}
 use Rattle.regular_maker.proofs.Children.{first_is_pair, child_is_pair}
-use Rattle.regular_maker.proofs.Numbers.{index_at, index_low, index_few}
+use Rattle.regular_maker.proofs.Numbers.{index_at, index_low}
 
 -- each entry of a list stands at the same place in the other
 pub record Grows (q : ℕ) (xs ys : List Pair) : Type 0 where

@@ -1,11 +1,11 @@
 -- What a regular file says of its only type, and what the automaton reads there.
-use Rattle.std.proofs.Common.{◌≡◌, ◌≢◌, ℕ, zero, suc, ◌+◌, ◌-◌, ◌*◌, ◌%◌, ◌<◌, ◌≤◌, List, length, refl, sym, ap, ap₂, ◌∙◌, subst, arith}
+use Rattle.std.proofs.Common.{◌≡◌, ℕ, zero, suc, ◌+◌, ◌-◌, ◌%◌, ◌<◌, ◌≤◌, List, length, refl, sym, ap, ◌∙◌, subst, arith}
 use Rattle.tile_model.specs.Tessellations.{TileKind, kind_at, cross, valence, IsType}
 use Rattle.tile_model.specs.Validity.{IsValid}
 use Rattle.tree_model.specs.Automata.{TreeAutomaton, state_at, side_count, type_at, next, previous}
 use Rattle.regular_maker.specs.Regular.{IsRegular, IsInfinite, IsSymbol, p_of, q_of}
 use Rattle.regular_maker.specs.Automaton.{regular_automaton}
-use Rattle.regular_maker.proofs.Tables.{IsPlain, plain}
+use Rattle.regular_maker.proofs.Tables.{plain}
 
 -- The kinds are one kind of p sides that are all alike and lie across from each other, with q tiles
 -- round each corner.

@@ -1,14 +1,13 @@
 -- The runs of Right and of Left sides: which claims they pass, where they end, and how long they
 -- are.
-use Rattle.std.proofs.Common.{◌≡◌, ◌≢◌, ℕ, zero, suc, ◌+◌, ◌-◌, ◌*◌, ◌<◌, ◌≤◌, ◌⊎◌, inl, inr, refl, sym, ap, ◌∙◌, subst, arith, true, false}
-use Rattle.std.specs.Prelude.{nat_eq, if◌then◌else◌}
-use Rattle.std.proofs.lemmas.Bool.{cases_lt, cases_eq, eqb-true, eqb-false, eq-eqb, ne_eqb}
+use Rattle.std.proofs.Common.{◌≡◌, ◌≢◌, ℕ, zero, suc, ◌+◌, ◌-◌, ◌<◌, ◌≤◌, ◌⊎◌, inl, inr, refl, sym, ap, ◌∙◌, subst, arith}
+use Rattle.std.proofs.lemmas.Bool.{cases_lt, cases_eq, eq-eqb, ne_eqb}
 use Rattle.tree_model.specs.declared.Claim.{Claim}
-use Rattle.regular_maker.specs.Corners.{half, parity, outer_of}
+use Rattle.regular_maker.specs.Corners.{parity, outer_of}
 use Rattle.regular_maker.specs.States.{beyond, right_claim, right_run, left_claim, left_run, rights, lefts}
 use Rattle.regular_maker.specs.Pairs.{IsPair, AreNear}
 use Rattle.regular_maker.specs.declared.symbol.Pair.{Pair}
-use Rattle.regular_maker.proofs.Shapes.{IsShape, IsRight, IsLeft, right_of, left_of, half_least, beyond_right, outer_left}
+use Rattle.regular_maker.proofs.Shapes.{IsShape, IsRight, IsLeft, beyond_right, outer_left}
 
 module _ (q : ℕ) where
   right_shift : (c : Claim) (i : ℕ) → right_claim q (beyond q c.corner) i ≡ right_claim q c (suc i)

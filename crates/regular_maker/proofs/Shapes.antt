@@ -1,11 +1,11 @@
 -- What the numbers p and q of an infinite regular tessellation are, and on which side of the lowest
 -- tile of its corner a claim lies.
-use Rattle.std.proofs.Common.{◌≡◌, ℕ, suc, ◌+◌, ◌-◌, ◌*◌, ◌/◌, ◌%◌, ◌<◌, ◌≤◌, ◌⊎◌, inl, inr, refl, ap, subst, arith}
-use Rattle.std.proofs.lemmas.Bool.{cases_lt, cases_eq}
+use Rattle.std.proofs.Common.{◌≡◌, ℕ, suc, ◌+◌, ◌-◌, ◌*◌, ◌<◌, ◌≤◌, ◌⊎◌, inl, inr, subst, arith}
+use Rattle.std.proofs.lemmas.Bool.{cases_eq}
 use Rattle.tree_model.specs.declared.Claim.{Claim}
 use Rattle.regular_maker.specs.Regular.{IsInfinite, IsSymbol}
 use Rattle.regular_maker.specs.Corners.{half, parity, outer_of}
-use Rattle.regular_maker.specs.States.{lowest, beyond, nearer}
+use Rattle.regular_maker.specs.States.{lowest, beyond}
 use Rattle.regular_maker.specs.Pairs.{IsBehind, IsAhead}
 
 -- One number is 3 and the other at least 6, or both are at least 4.

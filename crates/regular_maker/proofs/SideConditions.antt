@@ -1,24 +1,21 @@
 -- The conditions on one state: where its parent side is, of which kinds its children are, and which
 -- places stand beside Left and Right sides.
-use Rattle.std.proofs.Common.{◌≡◌, ◌≢◌, ℕ, zero, suc, ◌+◌, ◌-◌, ◌*◌, ◌<◌, ◌≤◌, ◌⊎◌, inl, inr, List, length, refl, sym, ap, ap₂, ◌∙◌, subst, arith}
+use Rattle.std.proofs.Common.{◌≡◌, ◌≢◌, ℕ, zero, suc, ◌+◌, ◌-◌, ◌<◌, ◌≤◌, ◌⊎◌, inl, inr, List, length, refl, sym, ap, ◌∙◌, subst, arith}
 use Rattle.std.specs.Prelude.{◌↔◌}
-use Rattle.std.proofs.lemmas.Bool.{cases_lt, cases_eq}
-use Rattle.tile_model.specs.Tessellations.{TileKind, kind_at, cross, valence}
-use Rattle.tree_model.specs.declared.Rule.{Rule}
+use Rattle.std.proofs.lemmas.Bool.{cases_lt}
+use Rattle.tile_model.specs.Tessellations.{TileKind, cross, valence}
 use Rattle.tree_model.specs.declared.Rule.TheVariants.{Parent, Child, Left, Right}
 use Rattle.tree_model.specs.declared.Claim.{Claim}
-use Rattle.tree_model.specs.Automata.{TreeAutomaton, state_at, root_at, rule_at, claim_at, corner_valence, outer, side_count, type_at, next, previous, further}
+use Rattle.tree_model.specs.Automata.{TreeAutomaton, state_at, root_at, rule_at, claim_at, outer, side_count, next, previous, further}
 use Rattle.tree_model.specs.Conditions.{IsRoot, HasParentRule, HasChildType, HasClaimValence, HasFirstPlace, HasLastPlace, HasOuterBefore, HasOuterBehind}
-use Rattle.regular_maker.specs.Corners.{parity, outer_of}
-use Rattle.regular_maker.specs.Pairs.{IsPair}
-use Rattle.regular_maker.specs.States.{lowest, beyond, rights, lefts, pair_claim, child_pair}
-use Rattle.regular_maker.specs.Automaton.{index_in, pair_rule, pair_at, all_pairs, regular_automaton}
-use Rattle.regular_maker.specs.declared.symbol.Pair.{Pair}
+use Rattle.regular_maker.specs.Corners.{outer_of}
+use Rattle.regular_maker.specs.States.{lowest, beyond, rights, lefts, pair_claim}
+use Rattle.regular_maker.specs.Automaton.{pair_rule, all_pairs, regular_automaton}
 use Rattle.regular_maker.proofs.Shapes.{IsShape, lowest_right, lowest_left, right_not_first, left_not_last}
 use Rattle.regular_maker.proofs.Runs.{runs_apart}
-use Rattle.regular_maker.proofs.Claims.{IsTold, told, claim_before_left, claim_behind_right}
+use Rattle.regular_maker.proofs.Claims.{told, claim_before_left, claim_behind_right}
 use Rattle.regular_maker.proofs.Tables.{state_count, root_rule, root_claim, state_rule, state_claim, plain, valence_is, outer_is, root_zero, only_root, ruled, ruled_parent, parent_ruled, ruled_right, right_ruled, ruled_left, left_ruled}
-use Rattle.regular_maker.proofs.TableCondition.{pair, pair_is, IsChildOf, child_of, root_child, placed, child_there}
+use Rattle.regular_maker.proofs.TableCondition.{pair, pair_is, child_of, root_child, placed, child_there}
 use Rattle.regular_maker.proofs.Over.{IsOver, sides_are, type_is, previous_is, previous_less, next_inner, next_last}
 
 module _ (p q : ℕ) (shape : IsShape p q) where

@@ -1,21 +1,20 @@
 -- The first condition: whatever the tables name is there.
-use Rattle.std.proofs.Common.{◌≡◌, ◌≢◌, ℕ, zero, suc, ◌+◌, ◌-◌, ◌*◌, ◌<◌, ◌≤◌, ◌⊎◌, inl, inr, List, length, refl, sym, ap, ap₂, ◌∙◌, subst, arith}
+use Rattle.std.proofs.Common.{◌≡◌, ℕ, zero, suc, ◌+◌, ◌<◌, ◌≤◌, List, length, refl, sym, ap, ◌∙◌, subst, arith}
 use Rattle.tile_model.specs.Tessellations.{TileKind, kind_at}
-use Rattle.tree_model.specs.declared.Rule.{Rule}
-use Rattle.tree_model.specs.declared.Rule.TheVariants.{Parent, Child, Left, Right}
+use Rattle.tree_model.specs.declared.Rule.TheVariants.{Child}
 use Rattle.tree_model.specs.declared.Claim.{Claim}
-use Rattle.tree_model.specs.Automata.{TreeAutomaton, state_at, root_at, rule_at, claim_at, corner_valence, side_count}
-use Rattle.tree_model.specs.Conditions.{HasLimits, HasRootState, HasTables, HasTargets, IsClosedTable}
+use Rattle.tree_model.specs.Automata.{TreeAutomaton, state_at, root_at, rule_at, claim_at}
+use Rattle.tree_model.specs.Conditions.{HasLimits, HasTables, HasTargets, IsClosedTable}
 use Rattle.regular_maker.specs.Corners.{parity}
 use Rattle.regular_maker.specs.Pairs.{IsPair}
-use Rattle.regular_maker.specs.States.{lowest, rights, lefts, pair_claim, child_pair}
+use Rattle.regular_maker.specs.States.{rights, lefts, child_pair}
 use Rattle.regular_maker.specs.Automaton.{index_in, number_of, pair_rule, pair_at, all_pairs, regular_automaton}
 use Rattle.regular_maker.specs.declared.symbol.Pair.{Pair}
 use Rattle.regular_maker.proofs.Shapes.{IsShape, lowest_right}
 use Rattle.regular_maker.proofs.Claims.{told}
 use Rattle.regular_maker.proofs.Growing.{IsIn, child_from}
 use Rattle.regular_maker.proofs.AllPairs.{all_list, all_few, all_some, all_closed}
-use Rattle.regular_maker.proofs.Tables.{state_count, corner_count, root_rule, root_claim, state_rule, state_claim, IsPlain, plain, valence_is, ruled, ruled_child}
+use Rattle.regular_maker.proofs.Tables.{state_count, corner_count, root_rule, root_claim, state_rule, state_claim, plain, valence_is, ruled, ruled_child}
 use Rattle.regular_maker.proofs.CornerConditions.{has_offsets, has_outer}
 use Rattle.regular_maker.proofs.Over.{IsOver, sides_are}
 

@@ -1,14 +1,13 @@
 -- The tables of the automaton of {p,q}, read by number.
-use Rattle.std.proofs.Common.{◌≡◌, ◌≢◌, ℕ, zero, suc, ◌+◌, ◌-◌, ◌*◌, ◌<◌, ◌≤◌, ◌⊎◌, inl, inr, List, [], ◌∷◌, length, get_or, refl, sym, ap, ◌∙◌, subst, arith, true, false, ℤ, pos, replicate}
-use Rattle.std.specs.Prelude.{nat_eq, nat_le, if◌then◌else◌, Contains, slice_index_or}
+use Rattle.std.proofs.Common.{◌≡◌, ℕ, zero, suc, ◌+◌, ◌-◌, ◌<◌, ◌≤◌, ◌⊎◌, inl, inr, List, [], ◌∷◌, length, refl, sym, ap, ◌∙◌, subst, arith, pos}
+use Rattle.std.specs.Prelude.{nat_eq, nat_le, if◌then◌else◌, slice_index_or}
 use Rattle.std.proofs.lemmas.Bool.{cases_lt, cases_eq, eq-eqb, ne_eqb, le-leb, lt-leb}
 use Rattle.std.proofs.lemmas.List.{get_or-replicate, length-replicate}
 use Rattle.tree_model.specs.declared.Rule.{Rule}
 use Rattle.tree_model.specs.declared.Rule.TheVariants.{Parent, Child, Left, Right}
-use Rattle.tree_model.specs.declared.Claim.{Claim}
-use Rattle.tree_model.specs.Automata.{TreeState, TreeAutomaton, CornerType, no_state, no_corner, no_claim, state_at, corner_at, root_at, rule_at, claim_at, offset, corner_valence, outer, rank}
+use Rattle.tree_model.specs.Automata.{TreeState, TreeAutomaton, CornerType, no_state, no_corner, no_claim, state_at, corner_at, rule_at, claim_at, offset, corner_valence, outer, rank}
 use Rattle.tree_model.specs.Conditions.{IsRoot}
-use Rattle.regular_maker.specs.Corners.{half, parity, listed, depth_at, outer_of, corner_type, corner_types}
+use Rattle.regular_maker.specs.Corners.{parity, depth_at, outer_of, corner_type}
 use Rattle.regular_maker.specs.States.{lowest, rights, lefts, pair_claim, child_pair}
 use Rattle.regular_maker.specs.Automaton.{number_of, pair_rule, root_state, pair_state, nth_state, all_states, pair_at, all_pairs, regular_automaton}
 use Rattle.regular_maker.specs.declared.symbol.Pair.{Pair}

@@ -1,7 +1,7 @@
 -- The tree automaton of {p,q}. State 0 is the root. The others are numbered in the order in which
 -- their pairs are first met, going through the states by number, and through the Child sides of
 -- each by increasing side.
-use Rattle.std.specs.Prelude.{ℕ, zero, suc, ◌+◌, ◌-◌, List, [], ◌∷◌, ◌++◌, length, slice_index_or, Bool, ◌&&◌, nat_eq, nat_lt, nat_le, if◌then◌else◌, replicate}
+use Rattle.std.specs.Prelude.{ℕ, zero, suc, ◌+◌, List, [], ◌∷◌, ◌++◌, length, slice_index_or, Bool, ◌&&◌, nat_eq, nat_lt, nat_le, if◌then◌else◌, replicate}
 use Rattle.tree_model.specs.declared.Claim.{Claim}
 use Rattle.tree_model.specs.declared.Rule.{Rule}
 use Rattle.tree_model.specs.declared.Rule.TheVariants.{Parent, Child, Left, Right}

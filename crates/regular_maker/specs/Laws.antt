@@ -1,5 +1,5 @@
 -- What the automaton of {p,q} is good for.
-use Rattle.std.specs.Prelude.{ℕ, suc, ◌<◌, ◌≤◌, List, length}
+use Rattle.std.specs.Prelude.{List}
 use Rattle.tile_model.specs.Tessellations.{TileKind}
 use Rattle.tile_model.specs.Validity.{IsValid}
 use Rattle.tree_model.specs.Conditions.{IsAccepted}

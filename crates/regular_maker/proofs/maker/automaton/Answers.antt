@@ -1,8 +1,8 @@
-use Rattle.std.proofs.Common.{◌≡◌, ◌≤◌, ◌<◌, ◌+◌, ◌%◌, ℕ, suc, List, [], ◌∷◌, length, get_or, arith, sym, ap, ap₂, subst, ◌∙◌}
+use Rattle.std.proofs.Common.{◌≡◌, ◌<◌, ◌+◌, suc, List, length, get_or, arith, sym, ap, subst, ◌∙◌}
 use Rattle.std.proofs.lemmas.List.{get_or_default}
 use Rattle.regular_maker.specs.Pairs.{IsPair}
 use Rattle.regular_maker.specs.States.{first_pair}
-use Rattle.regular_maker.specs.Corners.{parity, corner_types}
+use Rattle.regular_maker.specs.Corners.{parity}
 use Rattle.regular_maker.specs.Automaton.{pair_at, all_pairs, all_states}
 use Rattle.regular_maker.specs.declared.symbol.Pair.{Pair}
 use Rattle.regular_maker.proofs.Shapes.{shape_of}

@@ -1,4 +1,4 @@
-use Rattle.std.proofs.Common.{◌≡◌, List, ap, sym, arith}
+use Rattle.std.proofs.Common.{List, ap, sym, arith}
 use Rattle.regular_maker.specs.Automaton.{index_in}
 use Rattle.regular_maker.specs.declared.symbol.Pair.{Pair}
 use Rattle.regular_maker.proofs.Numbers.{index_few}

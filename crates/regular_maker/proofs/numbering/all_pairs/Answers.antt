@@ -1,8 +1,8 @@
-use Rattle.std.proofs.Common.{◌≡◌, ◌<◌, ◌≤◌, ◌+◌, ◌-◌, ℕ, suc, List, [], ◌∷◌, length, get_or, arith, sym, ap, ap₂, subst, ◌∙◌, add-one}
+use Rattle.std.proofs.Common.{◌≡◌, ◌<◌, ◌≤◌, ◌+◌, suc, List, [], ◌∷◌, length, get_or, arith, sym, ap, ap₂, subst, ◌∙◌}
 use Rattle.std.proofs.lemmas.List.{get_or_read}
 use Rattle.regular_maker.specs.Pairs.{IsPair}
 use Rattle.regular_maker.specs.States.{first_pair}
-use Rattle.regular_maker.specs.Automaton.{pairs_met, pair_at, all_pairs}
+use Rattle.regular_maker.specs.Automaton.{pairs_met, pair_at}
 use Rattle.regular_maker.specs.declared.symbol.Pair.{Pair}
 use Rattle.regular_maker.proofs.Shapes.{shape_of}
 use Rattle.regular_maker.proofs.Growing.{pairs_met_at, met_list, met_more, at_grows}

@@ -1,4 +1,4 @@
-use Rattle.std.proofs.Common.{◌≡◌, ◌≤◌, ◌-◌, vec_len, length}
+use Rattle.std.proofs.Common.{◌≡◌, ◌≤◌, ◌-◌, length}
 use Rattle.regular_maker.specs.Automaton.{pairs_met}
 use Rattle.regular_maker.proofs.numbering.all_pairs.Given as goal
 

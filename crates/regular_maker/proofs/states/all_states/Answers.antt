@@ -1,10 +1,9 @@
-use Rattle.std.proofs.Common.{◌≡◌, ℕ, suc, ◌+◌, ◌<◌, List, [], ◌∷◌, ◌++◌, length, get_or, ap, ap₂, sym, ◌∙◌, arith}
-use Rattle.std.proofs.lemmas.List.{get_or_read, get_or_default}
+use Rattle.std.proofs.Common.{◌≡◌, suc, ◌+◌, ◌<◌, List, [], ◌∷◌, ◌++◌, length, ap, ap₂, ◌∙◌, arith}
+use Rattle.std.proofs.lemmas.List.{get_or_default}
 use Rattle.tree_model.specs.Automata.{TreeState}
 use Rattle.regular_maker.specs.Corners.{listed}
 use Rattle.regular_maker.specs.States.{first_pair}
 use Rattle.regular_maker.specs.Automaton.{root_state, nth_state, pair_state, pair_at}
-use Rattle.regular_maker.specs.declared.symbol.Pair.{Pair}
 use Rattle.regular_maker.proofs.states.all_states.Goals as goal
 
 pub loop-n-preserved : goal.loop-n-preserved

@@ -1,6 +1,5 @@
-use Rattle.std.proofs.Common.{◌≡◌, ℕ, ◌+◌, ◌-◌, ◌<◌, arith, ap, sym, subst, ◌∙◌, suc}
+use Rattle.std.proofs.Common.{◌<◌, arith, sym, subst, ◌∙◌}
 use Rattle.tree_model.specs.declared.Claim.{Claim}
-use Rattle.regular_maker.specs.States.{pair_claim}
 use Rattle.regular_maker.proofs.Shapes.{shape_of}
 use Rattle.regular_maker.proofs.Claims.{told, claim_right, claim_left, claim_middle}
 use Rattle.regular_maker.proofs.symbol.Symbol.claim.Goals as goal

@@ -1,4 +1,4 @@
-use Rattle.std.proofs.Common.{◌≡◌, ℕ, ◌+◌, ◌-◌, arith, ap, sym, subst, ◌∙◌, suc}
+use Rattle.std.proofs.Common.{◌≡◌, ◌+◌, ◌-◌, arith, sym, subst}
 use Rattle.tree_model.specs.declared.Claim.{Claim}
 use Rattle.regular_maker.specs.States.{lefts, left_run}
 use Rattle.regular_maker.proofs.Runs.{left_end, left_more, left_full}
