@@ -3,7 +3,7 @@ use Rattle.std.proofs.Common.{◌≡◌, ◌≢◌, ℕ, ◌+◌, ◌<◌, List,
 use Rattle.std.proofs.lemmas.List.{append-nil}
 use Rattle.std.proofs.lemmas.List.Elements.{All-head, All-tail, All-cons, All-nil, All-push}
 use Rattle.cell_names.specs.Name.{IsName}
-use Rattle.cell_names.specs.Text.{dot, name_text, IsSpelling, NoDigit}
+use Rattle.cell_names.specs.Text.{dot, name_text, IsSpelling, NoDigit, SpellsNoOther}
 use Rattle.cell_names.proofs.Digits.{no_side, side_unique}
 
 -- the text of the sides behind the first
@@ -64,6 +64,9 @@ spelling_unique bytes (side ∷ sides) [] spelt spelt' = absurd (dash_alone byte
 spelling_unique bytes (side ∷ sides) (other ∷ rest) spelt spelt' =
     sides_unique sides rest side other spelt.is_name spelt'.is_name
     (sym (name_text-cons side sides) ∙ spelt.text ∙ sym spelt'.text ∙ name_text-cons other rest)
+
+pub spells_no_other : (name : List ℕ) → IsName name → SpellsNoOther (name_text name) name
+spells_no_other name is_name = λ other is. spelling_unique (name_text name) other name is (record { is_name = is_name; text = refl })
 
 -- of this name the sides in `left` are not read yet, and the rest of the bytes is theirs
 pub record IsLeft (read rest name : List ℕ) : Type 0 where

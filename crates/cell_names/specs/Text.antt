@@ -17,6 +17,10 @@ pub record IsSpelling (bytes name : List ℕ) : Type 0 where
   pub is_name : IsName name
   pub text : name_text name ≡ bytes
 
+-- the bytes spell no other name
+abbrev pub SpellsNoOther : List ℕ → List ℕ → Type 0
+SpellsNoOther bytes name = (other : List ℕ) → IsSpelling bytes other → other ≡ name
+
 -- the bytes do not begin with a digit
 abbrev pub NoDigit : List ℕ → Type 0
 NoDigit bytes = (digit : ℕ) (rest : List ℕ) → digit < 10 → bytes ≢ (48 + digit) ∷ rest

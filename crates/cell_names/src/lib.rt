@@ -7,4 +7,4 @@ mod tests;
 mod text;
 
 pub use name::Name;
-pub use text::{LONGEST, NameFault, print_name, read_name, write_name};
+pub use text::{NameFault, print_name, read_name, write_name};

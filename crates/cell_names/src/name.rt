@@ -4,6 +4,7 @@ ghost use Rattle.std.specs.Cmp.{partial_equiv_from_equiv};
 ghost use Rattle.std.specs.Cmp.Lexicographic.{pointwise, slice_cmp, nat_list_eq_equiv, nat_list_cmp_total, texts_ties, texts_po};
 ghost use Rattle.std.specs.Hash as fed;
 ghost use Rattle.std.specs.Ordering.{nat_cmp};
+ghost use Rattle.tree_model.specs.Names.{IsBefore};
 ghost use Rattle.cell_names.specs.Name.{IsName};
 
 use smallvec::SmallVec;
@@ -86,7 +87,8 @@ impl Name {
         self.sides.as_slice()
     }
 
-    /// Puts a side, from 0 to 63, at a place below `len`. All other places keep theirs. It takes no memory.
+    /// Puts a side, from 0 to 63, at a place below `len`. All other places keep theirs. It takes no
+    /// memory.
     pub fn set(&mut self, at: usize, side: u8)
         requires place { at < length self.old }
         requires below { side < 64 }
@@ -95,8 +97,8 @@ impl Name {
         self.sides.as_mut_slice()[at] = side;
     }
 
-    /// Keeps the first `kept` sides, at most `len` of them, and puts other sides behind them, each from 0 to 63. Out of memory the name is
-    /// as it was.
+    /// Keeps the first `kept` sides, at most `len` of them, and puts other sides behind them, each
+    /// from 0 to 63. Out of memory the name is as it was.
     pub fn rejoin(&mut self, kept: usize, sides: &[u8]) -> Result<(), AllocError>
         requires kept { kept ≤ length self.old }
         requires below { IsName sides.now }
@@ -150,7 +152,10 @@ impl Ord for Name {
 
     ghost matches_eq = { texts_ties };
 
-    fn cmp(&self, other: &Name) -> Ordering {
+    fn cmp(&self, other: &Name) -> Ordering
+        ensures value { result ≡ slice_cmp nat_cmp self.now other.now }
+        ensures before { (result ≡ Ordering.Less) ↔ IsBefore self.now other.now }
+    {
         self.sides().cmp(other.sides())
     }
 }

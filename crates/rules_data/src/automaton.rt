@@ -8,8 +8,9 @@ use std::alloc::{AllocError, Global};
 use std::marker::Model;
 use tree_model::{Claim, Rule};
 
-/// An automaton: its states, its corner types, for each kind the state of a root of this kind, and the scale. Any tables are allowed:
-/// the numbers of states and corner types that they name may be out of range.
+/// An automaton: its states, its corner types, for each kind the state of a root of this kind, and
+/// the scale. Any tables are allowed: the numbers of states and corner types that they name may be
+/// out of range.
 #[derive(Debug, Drop)]
 pub struct Automaton {
     pub states: Vec<State>,
@@ -23,7 +24,12 @@ impl Model for Automaton {
 
     ghost Value = { TreeAutomaton };
 
-    ghost view = { λ a. record { states = a.states.items; corners = a.corners.items; roots = a.roots.items; scale = a.scale } };
+    ghost view = { λ a. record {
+      states = a.states.items;
+      corners = a.corners.items;
+      roots = a.roots.items;
+      scale = a.scale;
+    } };
 }
 
 impl Automaton {
@@ -93,7 +99,8 @@ impl Automaton {
         self.corner(g).offsets[t as usize]
     }
 
-    /// The corner at the other end of the key edge of corner type `g`, below the number of corner types.
+    /// The corner at the other end of the key edge of corner type `g`, below the number of corner
+    /// types.
     #[tactic(auto, using(std::proofs::lemmas::List::get_or_default), unfolding(tree_model::specs::Automata::outer))]
     pub fn outer(&self, g: u32) -> Claim
         requires { g < length self.now.corners }

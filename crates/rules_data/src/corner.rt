@@ -5,8 +5,9 @@ use std::alloc::{AllocError, Global};
 use std::marker::Model;
 use tree_model::Claim;
 
-/// A corner type: for each place the depth of its tile less that of the tile at place 0 (so the valence is the length of this list), the
-/// corner at the other end of the key edge with the place at which it has the tile that is at place 0 here, and a rank.
+/// A corner type: for each place the depth of its tile less that of the tile at place 0 (so the
+/// valence is the length of this list), the corner at the other end of the key edge with the place
+/// at which it has the tile that is at place 0 here, and a rank.
 #[derive(Debug, Drop)]
 pub struct Corner {
     pub offsets: Vec<i8>,

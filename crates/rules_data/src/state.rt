@@ -5,8 +5,8 @@ use std::alloc::{AllocError, Global};
 use std::marker::Model;
 use tree_model::{Claim, Rule};
 
-/// A state of a tile: its kind, the residue of its side 0, a rule for each side, and for each corner what it claims of it. Corner `i`
-/// lies between sides `i` and `i + 1`.
+/// A state of a tile: its kind, the residue of its side 0, a rule for each side, and for each
+/// corner what it claims of it. Corner `i` lies between sides `i` and `i + 1`.
 #[derive(Debug, Drop)]
 pub struct State {
     pub kind: u8,
@@ -20,7 +20,12 @@ impl Model for State {
 
     ghost Value = { TreeState };
 
-    ghost view = { λ s. record { kind = s.kind; off = s.off; rules = s.rules.items; claims = s.claims.items } };
+    ghost view = { λ s. record {
+      kind = s.kind;
+      off = s.off;
+      rules = s.rules.items;
+      claims = s.claims.items;
+    } };
 }
 
 impl State {

@@ -7,3 +7,4 @@ pub mod Unique
 pub mod Canonical
 pub mod Writable
 pub mod Spelt
+pub mod Printing

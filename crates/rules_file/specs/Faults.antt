@@ -17,7 +17,8 @@ abbrev pub HasNoArray : List ℕ → Data → Type 0
 HasNoArray name d = (ds : Items) → get name d ≢ Some (array ds)
 
 -- the member of this name is an array whose entry i spells nothing
-pub record HasBadEntry {A : Type 0} (Spells : Data → A → Type 0) (name : List ℕ) (d : Data) (i : ℕ) : Type 0 where
+pub record HasBadEntry {A : Type 0} (Spells : Data → A → Type 0)
+    (name : List ℕ) (d : Data) (i : ℕ) : Type 0 where
   pub entries : Items
   pub found : get name d ≡ Some (array entries)
   pub entry : Data
@@ -29,7 +30,8 @@ abbrev pub FailsAt : Part → ℕ → Data → Type 0
 FailsAt Whole i d = (i ≡ 0) × IsNoObject d
 FailsAt Version i d = (i ≡ 0) × (get (codes "version") d ≢ Some (whole 1))
 FailsAt Scale i d = (i ≡ 0) × ((n : ℕ) → ¬ SpellsMember SpellsWord (codes "scale") d n)
-FailsAt Roots i d = ((i ≡ 0) × HasNoArray (codes "roots") d) ⊎ HasBadEntry SpellsWord (codes "roots") d i
+FailsAt Roots i d =
+    ((i ≡ 0) × HasNoArray (codes "roots") d) ⊎ HasBadEntry SpellsWord (codes "roots") d i
 FailsAt Corners i d = (i ≡ 0) × HasNoArray (codes "corners") d
 FailsAt Corner i d = HasBadEntry SpellsCorner (codes "corners") d i
 FailsAt States i d = (i ≡ 0) × HasNoArray (codes "states") d
@@ -60,10 +62,14 @@ Refuses d Memory = ⊤
 
 -- the arrays among the members have fewer entries than a u32 counts
 abbrev pub HasSmallArrays : Data → Type 0
-HasSmallArrays d = (name : List ℕ) (ds : Items) → get name d ≡ Some (array ds) → items_len ds < 2 ^ 32
+HasSmallArrays d =
+    (name : List ℕ) (ds : Items) → get name d ≡ Some (array ds) → items_len ds < 2 ^ 32
 
 -- what a table is refused for: want of memory, no array, or its first entry that spells nothing
-pub data RefusesTable {A : Type 0} (Spells : Data → A → Type 0) (name : List ℕ) (d : Data) (whole_part entry_part : Part) : RulesFault → Type 0 where
+pub data RefusesTable {A : Type 0} (Spells : Data → A → Type 0)
+    (name : List ℕ) (d : Data) (whole_part entry_part : Part) : RulesFault → Type 0 where
   no_memory : RefusesTable Spells name d whole_part entry_part Memory
-  no_array : HasNoArray name d → RefusesTable Spells name d whole_part entry_part (Shape whole_part 0)
-  bad_entry : {ds : Items} {i : ℕ} → get name d ≡ Some (array ds) → IsFirstMisfit Spells ds i → RefusesTable Spells name d whole_part entry_part (Shape entry_part i)
+  no_array : HasNoArray name d
+      → RefusesTable Spells name d whole_part entry_part (Shape whole_part 0)
+  bad_entry : {ds : Items} {i : ℕ} → get name d ≡ Some (array ds) → IsFirstMisfit Spells ds i
+      → RefusesTable Spells name d whole_part entry_part (Shape entry_part i)

@@ -1,9 +1,13 @@
 -- Automata whose numbers fit the tables of the code.
-use Rattle.std.specs.Prelude.{◌^◌, ◌<◌, All, FitsSigned}
+use Rattle.std.specs.Prelude.{ℕ, ◌^◌, ◌<◌, All, FitsSigned}
 use Rattle.std.specs.Int.{w8}
 use Rattle.tree_model.specs.declared.Claim.{Claim}
 use Rattle.tree_model.specs.Automata.{TreeState, CornerType, TreeAutomaton}
 use Rattle.rules_file.specs.Spelling.{FitsRule}
+
+-- a number of 32 bits
+abbrev pub IsWord : ℕ → Type 0
+IsWord n = n < 2 ^ 32
 
 pub record FitsPair (c : Claim) : Type 0 where
   pub corner : c.corner < 2 ^ 32
@@ -22,6 +26,6 @@ pub record FitsState (s : TreeState) : Type 0 where
 
 pub record FitsTables (a : TreeAutomaton) : Type 0 where
   pub scale : a.scale < 2 ^ 32
-  pub roots : All (λ n. n < 2 ^ 32) a.roots
+  pub roots : All IsWord a.roots
   pub corners : All FitsCorner a.corners
   pub states : All FitsState a.states

@@ -132,7 +132,8 @@ abbrev pub IsRulesFile : List ℕ → TreeAutomaton → Type 0
 IsRulesFile bytes a = (d : Data) × IsTextOf bytes d × SpellsTables d a
 
 -- item i is the first that spells nothing
-pub record IsFirstMisfit {A : Type 0} (Spells : Data → A → Type 0) (ds : Items) (i : ℕ) : Type 0 where
+pub record IsFirstMisfit {A : Type 0} (Spells : Data → A → Type 0)
+    (ds : Items) (i : ℕ) : Type 0 where
   pub entry : Data
   pub at : get_item i ds ≡ Some entry
   pub bad : (x : A) → ¬ Spells entry x

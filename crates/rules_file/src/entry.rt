@@ -139,7 +139,8 @@ pub(crate) fn read_each<T: Entry>(
     alloc: Global,
     entries: &[Value],
 ) -> Result<Result<Vec<T>, usize>, AllocError>
-    ensures found { IfOk result (λ r. IfOk r (λ v. SpellEach T.spells (items_view entries.now) v.items)) }
+    ensures found { IfOk result
+        (λ r. IfOk r (λ v. SpellEach T.spells (items_view entries.now) v.items)) }
     ensures misfit { IfOk result (λ r. IfErr r (IsFirstMisfit T.spells (items_view entries.now))) }
 {
     let mut found = Vec::new(alloc);
@@ -154,7 +155,8 @@ pub(crate) fn read_each<T: Entry>(
 
 /// The entries of a member that is an array, None where it is missing or no array.
 pub(crate) fn array<'v>(json: &'v Value, name: &str) -> Option<&'v [Value]>
-    ensures some { IfSome result (λ vs. get name.now (view json.now) ≡ Some (json_array (items_view vs.now))) }
+    ensures some { IfSome result
+        (λ vs. get name.now (view json.now) ≡ Some (json_array (items_view vs.now))) }
     ensures none { IfNone result (HasNoArray name.now (view json.now)) }
 {
     match json.get(name)? {
@@ -169,8 +171,10 @@ pub(crate) fn member<T: Entry>(
     json: &Value,
     name: &str,
 ) -> Result<Option<T>, AllocError>
-    ensures some { IfOk result (λ o. IfSome o (λ x. SpellsMember T.spells name.now (view json.now) x)) }
-    ensures none { IfOk result (λ o. IfNone o ((x : T) → ¬ SpellsMember T.spells name.now (view json.now) x)) }
+    ensures some { IfOk result
+        (λ o. IfSome o (λ x. SpellsMember T.spells name.now (view json.now) x)) }
+    ensures none { IfOk result
+        (λ o. IfNone o ((x : T) → ¬ SpellsMember T.spells name.now (view json.now) x)) }
 {
     match json.get(name) {
         Some(value) => T::read(alloc, value),
@@ -178,10 +182,15 @@ pub(crate) fn member<T: Entry>(
     }
 }
 
-/// The values of a member that is an array, None where it is missing or no array or an entry spells none.
+/// The values of a member that is an array, None where it is missing or no array or an entry spells
+/// none.
 fn list<T: Entry>(alloc: Global, json: &Value, name: &str) -> Result<Option<Vec<T>>, AllocError>
-    ensures some { IfOk result (λ o. IfSome o (λ v. SpellsMember (SpellsArray T.spells) name.now (view json.now) v.items)) }
-    ensures none { IfOk result (λ o. IfNone o ((xs : List T) → ¬ SpellsMember (SpellsArray T.spells) name.now (view json.now) xs)) }
+    ensures some { IfOk result
+        (λ o. IfSome o
+        (λ v. SpellsMember (SpellsArray T.spells) name.now (view json.now) v.items)) }
+    ensures none { IfOk result
+        (λ o. IfNone o ((xs : List T)
+        → ¬ SpellsMember (SpellsArray T.spells) name.now (view json.now) xs)) }
 {
     let Some(entries) = array(json, name) else {
         return Ok(None);

@@ -15,8 +15,8 @@ pub enum Part {
     State,
 }
 
-/// Why bytes are no rules file: they are no JSON text, or the first part whose shape fails, with its index (the place of the entry for
-/// an entry of a list, else 0), or memory ran out.
+/// Why bytes are no rules file: they are no JSON text, or the first part whose shape fails, with
+/// its index (the place of the entry for an entry of a list, else 0), or memory ran out.
 #[derive(Clone, Copy, Debug, PartialEq, Eq, Drop, Error)]
 pub enum RulesFault {
     #[error("not a JSON text")]

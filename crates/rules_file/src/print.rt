@@ -1,18 +1,25 @@
 //! Printing the canonical text of a rules file.
-ghost use Rattle.std.specs.Prelude.{◌≡◌, ◌++◌, ◌∷◌, [], false, IfOk};
+ghost use Rattle.std.specs.Prelude.{◌≡◌, ◌++◌, ◌∷◌, [], false, All, FitsSigned, IfOk};
+ghost use Rattle.std.specs.Int.{w8};
 ghost use Rattle.serde_json.specs.Data.{Data};
 ghost use Rattle.serde_json.specs.View.{view};
 ghost use Rattle.serde_json.specs.Written.{has_float, compact_text};
-ghost use Rattle.rules_file.specs.Spelling.{whole, offset_json, rule_json, pair_json, list_json, corner_json, state_json, automaton_json, rules_text};
+ghost use Rattle.rules_file.specs.Ranges.{IsWord, FitsPair, FitsCorner, FitsState, FitsTables};
+ghost use Rattle.rules_file.specs.Spelling.{FitsRule, whole, offset_json, rule_json, pair_json, list_json, corner_json, state_json, automaton_json, IsRulesFile, rules_text};
+ghost use Rattle.tree_model.specs.Automata.{TreeAutomaton};
 
 use rules_data::{Automaton, Claim, Corner, Rule, State};
 use serde_json::{Value, json};
 use std::alloc::{AllocError, Global};
 
-/// The canonical text: compact JSON with the members of the format alone, in byte order of their names, and a line feed. Only want of
+/// The canonical text: compact JSON with the members of the format alone, in byte order of their
+/// names, and a line feed. It is a rules file of this automaton and of no other. Only want of
 /// memory refuses it.
 pub fn print_rules(alloc: Global, a: &Automaton) -> Result<Vec<u8>, AllocError>
     ensures canonical { IfOk result (λ v. v.items ≡ rules_text a.now) }
+    ensures spelling { IfOk result (λ v. IsRulesFile v.items a.now) }
+    ensures of_no_other { IfOk result
+        (λ v. (b : TreeAutomaton) → IsRulesFile v.items b → b ≡ a.now) }
 {
     let json = to_json(alloc, a)?;
     line(alloc, &json)
@@ -29,24 +36,37 @@ fn line(alloc: Global, json: &Value) -> Result<Vec<u8>, AllocError>
 }
 
 fn to_json(alloc: Global, a: &Automaton) -> Result<Value, AllocError>
-    ensures { IfOk result (λ v. view v ≡ automaton_json a.now) }
+    ensures json { IfOk result (λ v. view v ≡ automaton_json a.now) }
+    ensures fits { IfOk result (λ _. FitsTables a.now) }
 {
     let corners = list(alloc, &a.corners)?;
     let roots = list(alloc, &a.roots)?;
     let states = list(alloc, &a.states)?;
-    json!(in alloc; {"corners": corners, "roots": roots, "scale": a.scale, "states": states, "version": 1u32})
+    json!(in alloc; {
+        "corners": corners,
+        "roots": roots,
+        "scale": a.scale,
+        "states": states,
+        "version": 1u32
+    })
 }
 
 /// A value that is printed as JSON.
 trait Printed {
     ghost json: { Self → Data };
 
+    /// The numbers of the value are those of its type.
+    ghost fits: { Self → Type 0 };
+
     fn print(&self, alloc: Global) -> Result<Value, AllocError>
-        ensures { IfOk result (λ v. view v ≡ json self.now) };
+        ensures json { IfOk result (λ v. view v ≡ json self.now) }
+        ensures fits { IfOk result (λ _. fits self.now) };
 }
 
 impl Printed for u32 {
     ghost json = { whole };
+
+    ghost fits = { IsWord };
 
     fn print(&self, _alloc: Global) -> Result<Value, AllocError> {
         Ok(Value::from(*self))
@@ -56,6 +76,8 @@ impl Printed for u32 {
 impl Printed for i8 {
     ghost json = { offset_json };
 
+    ghost fits = { FitsSigned w8 };
+
     fn print(&self, _alloc: Global) -> Result<Value, AllocError> {
         Ok(Value::from(*self))
     }
@@ -63,6 +85,8 @@ impl Printed for i8 {
 
 impl Printed for Rule {
     ghost json = { rule_json };
+
+    ghost fits = { FitsRule };
 
     fn print(&self, alloc: Global) -> Result<Value, AllocError> {
         match self {
@@ -77,6 +101,8 @@ impl Printed for Rule {
 impl Printed for Claim {
     ghost json = { pair_json };
 
+    ghost fits = { FitsPair };
+
     fn print(&self, alloc: Global) -> Result<Value, AllocError> {
         json!(in alloc; [self.corner, self.place])
     }
@@ -84,6 +110,8 @@ impl Printed for Claim {
 
 impl Printed for Corner {
     ghost json = { corner_json };
+
+    ghost fits = { FitsCorner };
 
     fn print(&self, alloc: Global) -> Result<Value, AllocError> {
         let offsets = list(alloc, &self.offsets)?;
@@ -95,6 +123,8 @@ impl Printed for Corner {
 impl Printed for State {
     ghost json = { state_json };
 
+    ghost fits = { FitsState };
+
     fn print(&self, alloc: Global) -> Result<Value, AllocError> {
         let claims = list(alloc, &self.claims)?;
         let rules = list(alloc, &self.rules)?;
@@ -103,7 +133,8 @@ impl Printed for State {
 }
 
 fn list<T: Printed>(alloc: Global, values: &[T]) -> Result<Value, AllocError>
-    ensures { IfOk result (λ v. view v ≡ list_json T.json values.now) }
+    ensures json { IfOk result (λ v. view v ≡ list_json T.json values.now) }
+    ensures fits { IfOk result (λ _. All T.fits values.now) }
 {
     let mut printed = Vec::with_capacity(alloc, values.len())?;
     for value in values {

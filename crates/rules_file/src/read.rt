@@ -13,9 +13,9 @@ use rules_data::Automaton;
 use serde_json::{Category, Value};
 use std::alloc::Global;
 
-/// Reads a rules file of fewer than 2^32 - 1 bytes. `Syntax` where the bytes are no JSON text as `serde_json` reads it; `Shape` where
-/// the value of the text is none of an automaton, with the first part that fails, in the order of `Part`, and its index; `Memory` at
-/// any point.
+/// Reads a rules file of fewer than 2^32 - 1 bytes. `Syntax` where the bytes are no JSON text as
+/// `serde_json` reads it; `Shape` where the value of the text is none of an automaton, with the
+/// first part that fails, in the order of `Part`, and its index; `Memory` at any point.
 pub fn read_rules(alloc: Global, bytes: &[u8]) -> Result<Automaton, RulesFault>
     requires { length bytes.now < 2 ^ 32 - 1 }
     ensures ok { IfOk result (λ a. IsRulesFile bytes.now a) }
@@ -26,7 +26,8 @@ pub fn read_rules(alloc: Global, bytes: &[u8]) -> Result<Automaton, RulesFault>
         → (result ≡ Err RulesFault.Syntax) ⊎ (result ≡ Err RulesFault.Memory) }
     ensures shape { (part : Part) (i : ℕ) → result ≡ Err (RulesFault.Shape part i)
         → (d : Data) × IsTextOf bytes.now d × IsFirstFault d part i }
-    ensures misshapen { (d : Data) (part : Part) (i : ℕ) → IsTextOf bytes.now d → IsFirstFault d part i
+    ensures misshapen { (d : Data) (part : Part) (i : ℕ) → IsTextOf bytes.now d
+        → IsFirstFault d part i
         → (result ≡ Err (RulesFault.Shape part i)) ⊎ (result ≡ Err RulesFault.Memory) }
 {
     match Value::from_slice(alloc, bytes) {
@@ -73,7 +74,8 @@ fn is_first_version(json: &Value) -> bool
     }
 }
 
-/// The entries of a table. It fails as `whole_part` where the member is no array, and as `entry_part` at its first bad entry.
+/// The entries of a table. It fails as `whole_part` where the member is no array, and as
+/// `entry_part` at its first bad entry.
 fn table<T: Entry>(
     alloc: Global,
     json: &Value,
@@ -82,8 +84,10 @@ fn table<T: Entry>(
     entry_part: Part,
 ) -> Result<Vec<T>, RulesFault>
     requires { HasSmallArrays (view json.now) }
-    ensures ok { IfOk result (λ v. SpellsMember (SpellsArray T.spells) name.now (view json.now) v.items) }
-    ensures err { IfErr result (λ e. RefusesTable T.spells name.now (view json.now) whole_part entry_part e) }
+    ensures ok { IfOk result
+        (λ v. SpellsMember (SpellsArray T.spells) name.now (view json.now) v.items) }
+    ensures err { IfErr result
+        (λ e. RefusesTable T.spells name.now (view json.now) whole_part entry_part e) }
 {
     let Some(entries) = array(json, name) else {
         return Err(misshapen(whole_part));

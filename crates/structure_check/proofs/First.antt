@@ -1,11 +1,15 @@
 -- Where all conditions hold no place is the first broken one, and there is one first broken place at most.
 use Rattle.std.proofs.lemmas.Bool.{cases_lt}
-use Rattle.std.proofs.Common.{◌≡◌, ℕ, ◌<◌, ◌≤◌, inl, inr, List, sym, subst, arith}
+use Rattle.std.proofs.Common.{◌≡◌, ℕ, ◌<◌, ◌≤◌, inl, inr, List, refl, sym, subst, arith}
+use Rattle.std.specs.Prelude.{◌↔◌, Result, OnOk, IfErr, IsNone, IsSomeAnd}
+use Rattle.std.specs.declared.result.Result.TheVariants.{Ok, Err}
+use Rattle.std.specs.Result.{result_err}
 use Rattle.tile_model.specs.Tessellations.{TileKind}
 use Rattle.tree_model.specs.Automata.{TreeAutomaton}
 use Rattle.tree_model.specs.Conditions.{IsAccepted, IsClosedTable}
-use Rattle.structure_check.specs.Broken.{IsBefore, IsFirstBroken, PartHolds}
+use Rattle.structure_check.specs.Broken.{IsReadBefore, IsFirstBroken, PartHolds}
 use Rattle.structure_check.specs.Search.{HoldBelow, PartsBelow}
+use Rattle.structure_check.specs.declared.broken.Broken.{Broken}
 use Rattle.structure_check.specs.declared.sides.SideCondition.TheVariants.{Parents, ChildTypes, Valences, FirstPlaces, LastPlaces, OutersBefore, OutersBehind, ChildClaims}
 use Rattle.structure_check.specs.declared.corners.CornerCondition.TheVariants.{OneChange, SmallChange, GreaterOuter}
 use Rattle.structure_check.proofs.Places.{parts_hold, one_more_part, sides_hold, corners_hold}
@@ -42,13 +46,13 @@ module _ (kinds : List TileKind) (a : TreeAutomaton) where
   refutes c f s broken ok = broken.fails (all_hold ok c f s (omega (arith, broken.place.number.1)) broken.place)
 
   -- no place of the condition that is read before the first broken one is another first broken one
-  none_before : (c f s f' s' : ℕ) → IsFirstBroken kinds a c f s → IsFirstBroken kinds a c f' s' → IsBefore c f s f' s' → ⊥
+  none_before : (c f s f' s' : ℕ) → IsFirstBroken kinds a c f s → IsFirstBroken kinds a c f' s' → IsReadBefore c f s f' s' → ⊥
   none_before c f s f' s' one other before = one.fails (other.places_before f s one.place before)
 
   same_place : (c f s f' s' : ℕ) → IsFirstBroken kinds a c f s → IsFirstBroken kinds a c f' s' → (f ≡ f') × (s ≡ s')
   same_place c f s f' s' one other =
-      let less : IsBefore c f s f' s' → ⊥ = none_before c f s f' s' one other in
-      let more : IsBefore c f' s' f s → ⊥ = none_before c f' s' f s other one in
+      let less : IsReadBefore c f s f' s' → ⊥ = none_before c f s f' s' one other in
+      let more : IsReadBefore c f' s' f s → ⊥ = none_before c f' s' f s other one in
       let low : 1 ≤ c = one.place.number.0 in
       elim (cases_lt c 2) [
         | inl part ↦
@@ -74,3 +78,13 @@ module _ (kinds : List TileKind) (a : TreeAutomaton) where
       let same : c ≡ c' = omega arith in
       let places = same_place c f s f' s' one (subst (λ (x : ℕ). IsFirstBroken kinds a x f' s') (sym same) other) in
       (same, places.0, places.1)
+
+  -- the search finds nothing exactly where all conditions hold
+  pub none_exactly : {T : Type 0} (r : Result T Broken) → OnOk r (IsAccepted kinds a) → IfErr r (λ b. IsFirstBroken kinds a b.condition b.first b.second) → IsNone (result_err r) ↔ IsAccepted kinds a
+  none_exactly (Ok x) accepted first = ((λ _. accepted), λ _. refl)
+  none_exactly (Err b) accepted first = ((λ no. absurd (cc)), λ ok. absurd (refutes b.condition b.first b.second first ok))
+
+  -- and finds each first broken place
+  pub every_found : {T : Type 0} (r : Result T Broken) (c f s : ℕ) → OnOk r (IsAccepted kinds a) → IfErr r (λ b. IsFirstBroken kinds a b.condition b.first b.second) → IsFirstBroken kinds a c f s → IsSomeAnd (result_err r) (λ b. (c ≡ b.condition) × (f ≡ b.first) × (s ≡ b.second))
+  every_found (Ok x) c f s accepted first broken = absurd (refutes c f s broken accepted)
+  every_found (Err b) c f s accepted first broken = one_first c f s b.condition b.first b.second broken first

@@ -4,7 +4,7 @@ use Rattle.std.proofs.Math.Nat.{eq-or-lt_of_le}
 use Rattle.tile_model.specs.Tessellations.{TileKind}
 use Rattle.tree_model.specs.Automata.{TreeAutomaton, side_count}
 use Rattle.tree_model.specs.Conditions.{IsClosedTable, IsAccepted, AtEverySide}
-use Rattle.structure_check.specs.Broken.{IsPlace, IsFirstBroken, Holds, PartHolds, part_size}
+use Rattle.structure_check.specs.Broken.{IsReadAt, IsFirstBroken, Holds, PartHolds, part_size}
 use Rattle.structure_check.specs.Search.{HoldBelow, PartsBelow, StatesBelow, SideHolds, IsSideReady, side_number, IsPartReady, part_number, CornerHolds, HasCorners, corner_number}
 use Rattle.structure_check.specs.declared.table.TablePart.{TablePart}
 use Rattle.structure_check.specs.declared.table.TablePart.TheVariants.{Limits, Roots, Offsets, Outers, Sizes, Targets}
@@ -15,13 +15,13 @@ use Rattle.structure_check.specs.declared.corners.CornerCondition.TheVariants.{O
 
 module _ (kinds : List TileKind) (a : TreeAutomaton) where
   -- a place of each sort
-  part_place : (index part : ℕ) → part ≤ 5 → index < part_size kinds a part → IsPlace kinds a 1 index part
+  part_place : (index part : ℕ) → part ≤ 5 → index < part_size kinds a part → IsReadAt kinds a 1 index part
   part_place index part few below = record { number = (omega arith, omega arith); part = λ _. (few, below); side = λ low high. absurd (omega arith); corner = λ low. absurd (omega arith) }
 
-  side_place : (c s i : ℕ) → 2 ≤ c → c ≤ 9 → s < length a.states → i < side_count kinds a s → IsPlace kinds a c s i
+  side_place : (c s i : ℕ) → 2 ≤ c → c ≤ 9 → s < length a.states → i < side_count kinds a s → IsReadAt kinds a c s i
   side_place c s i low high state side = record { number = (omega arith, omega arith); part = λ e. absurd (omega arith); side = λ _ _. (state, side); corner = λ e. absurd (omega arith) }
 
-  corner_place : (c g : ℕ) → 10 ≤ c → c ≤ 12 → g < length a.corners → IsPlace kinds a c g 0
+  corner_place : (c g : ℕ) → 10 ≤ c → c ≤ 12 → g < length a.corners → IsReadAt kinds a c g 0
   corner_place c g low high corner = record { number = (omega arith, omega arith); part = λ e. absurd (omega arith); side = λ l h. absurd (omega arith); corner = λ _. (corner, refl) }
 
   -- a condition on sides by its number
@@ -68,11 +68,11 @@ module _ (kinds : List TileKind) (a : TreeAutomaton) where
   side_holds ChildClaims s i h = h
 
   -- one more condition: below the next number all hold
-  hold_more : (c : ℕ) → HoldBelow kinds a c → ((f s : ℕ) → IsPlace kinds a c f s → Holds kinds a c f s) → HoldBelow kinds a (suc c)
+  hold_more : (c : ℕ) → HoldBelow kinds a c → ((f s : ℕ) → IsReadAt kinds a c f s → Holds kinds a c f s) → HoldBelow kinds a (suc c)
   hold_more c below at b f s less place =
       let le : b ≤ c = omega arith in
       elim (eq-or-lt_of_le le) [
-        | inl same ↦ subst (λ (x : ℕ). IsPlace kinds a x f s → Holds kinds a x f s) (sym same) (at f s) place
+        | inl same ↦ subst (λ (x : ℕ). IsReadAt kinds a x f s → Holds kinds a x f s) (sym same) (at f s) place
         | inr lower ↦ below b f s lower place
       ]
 

@@ -1,11 +1,12 @@
--- The search for the first broken place: what has been found to hold so far, and what each check stands on.
+-- The search for the first broken place: what has been found to hold so far, and what each check
+-- stands on.
 use Rattle.std.specs.Prelude.{◌≡◌, ℕ, ◌<◌, ◌≤◌, List, length, slice_index_or, ℤ, pos, nat_abs}
 use Rattle.tile_model.specs.Tessellations.{TileKind}
 use Rattle.tree_model.specs.declared.Rule.TheVariants.{Child}
 use Rattle.tree_model.specs.declared.Claim.{Claim}
 use Rattle.tree_model.specs.Automata.{TreeAutomaton, side_count, rule_at, claim_at, corner_valence}
 use Rattle.tree_model.specs.Conditions.{AtEverySide, AtEveryCorner, HasLimits, HasOffsets, HasOuter, HasTables, HasParentRule, HasChildType, HasClaimValence, HasFirstPlace, HasLastPlace, HasOuterBefore, HasOuterBehind, KeepsClaims, HasOneChange, HasSmallChange, HasGreaterOuter}
-use Rattle.structure_check.specs.Broken.{IsPlace, Holds, PartHolds, part_size}
+use Rattle.structure_check.specs.Broken.{IsReadAt, Holds, PartHolds, part_size}
 use Rattle.structure_check.specs.declared.table.TablePart.{TablePart}
 use Rattle.structure_check.specs.declared.table.TablePart.TheVariants.{Limits, Roots, Offsets, Outers, Sizes, Targets}
 use Rattle.structure_check.specs.declared.sides.SideCondition.{SideCondition}
@@ -15,11 +16,12 @@ use Rattle.structure_check.specs.declared.corners.CornerCondition.TheVariants.{O
 
 -- all conditions with numbers below c hold everywhere
 abbrev pub HoldBelow : List TileKind → TreeAutomaton → ℕ → Type 0
-HoldBelow kinds a c = (b f s : ℕ) → b < c → IsPlace kinds a b f s → Holds kinds a b f s
+HoldBelow kinds a c = (b f s : ℕ) → b < c → IsReadAt kinds a b f s → Holds kinds a b f s
 
 -- all parts of C1 with numbers below p hold everywhere
 abbrev pub PartsBelow : List TileKind → TreeAutomaton → ℕ → Type 0
-PartsBelow kinds a p = (part index : ℕ) → part < p → index < part_size kinds a part → PartHolds kinds a part index
+PartsBelow kinds a p =
+    (part index : ℕ) → part < p → index < part_size kinds a part → PartHolds kinds a part index
 
 abbrev pub part_number : TablePart → ℕ
 part_number Limits = 0
@@ -48,7 +50,8 @@ pub record IsClaim (a : TreeAutomaton) (claim : Claim) : Type 0 where
 -- what the check of a part stands on
 abbrev pub IsPartReady : TablePart → List TileKind → TreeAutomaton → Type 0
 IsPartReady Limits kinds a = Unit {0}
-IsPartReady Targets kinds a = HasLimits kinds a × ((s : ℕ) → s < length a.states → HasTables kinds a s)
+IsPartReady Targets kinds a =
+    HasLimits kinds a × ((s : ℕ) → s < length a.states → HasTables kinds a s)
 IsPartReady _ kinds a = HasLimits kinds a
 
 abbrev pub side_number : SideCondition → ℕ
@@ -74,7 +77,8 @@ SideHolds ChildClaims kinds a s i = KeepsClaims kinds a s i
 
 -- what the check of such a condition stands on, beside a closed table
 abbrev pub IsSideReady : SideCondition → List TileKind → TreeAutomaton → Type 0
-IsSideReady ChildClaims kinds a = AtEverySide kinds a (HasFirstPlace a) × AtEverySide kinds a (HasLastPlace kinds a)
+IsSideReady ChildClaims kinds a =
+    AtEverySide kinds a (HasFirstPlace a) × AtEverySide kinds a (HasLastPlace kinds a)
 IsSideReady _ kinds a = Unit {0}
 
 -- it holds at the sides of state s below n

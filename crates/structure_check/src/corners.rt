@@ -55,7 +55,8 @@ fn raised(rank: u32, scale: u32, offset: i8) -> i64
     rank as i64 + scale as i64 * offset as i64
 }
 
-/// Whether the depth changes across the key edge by as much seen from the outer corner as seen from the corner itself.
+/// Whether the depth changes across the key edge by as much seen from the outer corner as seen from
+/// the corner itself.
 fn has_one_change(a: &Automaton, g: u32) -> bool
     requires corners { HasCorners a.now }
     requires corner { g < length a.now.corners }
@@ -76,7 +77,8 @@ fn has_small_change(a: &Automaton, g: u32) -> bool
     -1 <= change && change <= 1
 }
 
-/// Whether the rank of the outer corner is greater by more than the scale times the offset at which it is entered.
+/// Whether the rank of the outer corner is greater by more than the scale times the offset at which
+/// it is entered.
 fn has_greater_outer(a: &Automaton, g: u32) -> bool
     requires corners { HasCorners a.now }
     requires corner { g < length a.now.corners }
@@ -103,8 +105,12 @@ fn holds(condition: CornerCondition, a: &Automaton, g: u32) -> bool
 /// Looks for the least corner type of which the condition fails.
 pub fn check_corners(condition: CornerCondition, a: &Automaton) -> Result<(), Broken>
     requires { HasCorners a.now }
-    ensures ok { OnOk result ((kinds : List TileKind) → HoldBelow kinds a.now (corner_number condition) → HoldBelow kinds a.now (suc (corner_number condition))) }
-    ensures err { IfErr result (λ b. (kinds : List TileKind) → HoldBelow kinds a.now (corner_number condition) → IsFirstBroken kinds a.now b.condition b.first b.second) }
+    ensures ok { OnOk result ((kinds : List TileKind)
+        → HoldBelow kinds a.now (corner_number condition)
+        → HoldBelow kinds a.now (suc (corner_number condition))) }
+    ensures err { IfErr result
+        (λ b. (kinds : List TileKind) → HoldBelow kinds a.now (corner_number condition)
+        → IsFirstBroken kinds a.now b.condition b.first b.second) }
 {
     for g in 0..a.corners.len() as u32 {
         if !holds(condition, a, g) {

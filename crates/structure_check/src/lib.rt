@@ -1,4 +1,5 @@
-//! The checker: whether an automaton meets the twelve conditions over a tessellation, and where it first breaks one.
+//! The checker: whether an automaton meets the twelve conditions over a tessellation, and where it
+//! first breaks one.
 #![tactic(auto)]
 
 mod broken;
@@ -11,7 +12,8 @@ mod sides;
 mod table;
 
 pub use broken::Broken;
-pub use rules::{Rules, check};
+pub use reading::type_of as side_type;
+pub use rules::{Rules, check, first_broken};
 
 #[cfg(test)]
 mod tests;

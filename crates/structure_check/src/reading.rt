@@ -5,7 +5,7 @@ ghost use Rattle.tree_model.specs.Automata.{claim_at, side_count, type_at, offse
 ghost use Rattle.tree_model.specs.Conditions.{HasTables, IsClosedTable};
 ghost use Rattle.structure_check.specs.Search.{IsClaim};
 
-use rules_data::{Automaton, Claim};
+use rules_data::{Automaton, Claim, left_side, right_side};
 use tile_kinds::{DartType, Tessellation};
 
 /// The number of sides of a tile in state `s`.
@@ -38,7 +38,6 @@ pub fn type_of(tess: &Tessellation, a: &Automaton, s: u32, i: u8) -> DartType
 }
 
 /// The side behind side `i`, at its left.
-#[tactic(auto, unfolding(tree_model::specs::Automata::next))]
 pub fn side_behind(tess: &Tessellation, a: &Automaton, s: u32, i: u8) -> u8
     requires state { s < length a.now.states }
     requires tables { HasTables tess.now a.now s }
@@ -46,8 +45,7 @@ pub fn side_behind(tess: &Tessellation, a: &Automaton, s: u32, i: u8) -> u8
     ensures value { result ≡ next (side_count tess.now a.now s) i }
     ensures side { result < side_count tess.now a.now s }
 {
-    let sides = sides_of(tess, a, s);
-    if i + 1 == sides { 0 } else { i + 1 }
+    left_side(sides_of(tess, a, s), i)
 }
 
 /// The claim of the corner before side `i`, at its right end.
@@ -58,12 +56,7 @@ pub fn claim_before(tess: &Tessellation, a: &Automaton, s: u32, i: u8) -> Claim
     ensures value { result ≡ claim_at a.now s (previous (side_count tess.now a.now s) i) }
     ensures known { IsClaim a.now result }
 {
-    let before = if i == 0 {
-        sides_of(tess, a, s) - 1
-    } else {
-        i - 1
-    };
-    a.claim(s, before)
+    a.claim(s, right_side(sides_of(tess, a, s), i))
 }
 
 /// Whether the tile at place `t` of a corner lies one level deeper than the one at place `u`.

@@ -13,11 +13,14 @@ pub fn is_root(a: &Automaton, s: u32) -> bool
     a.roots.contains(&s)
 }
 
-/// Whether each kind whose root is state `s` is the kind of that state, with residue 0 at its side 0.
+/// Whether each kind whose root is state `s` is the kind of that state, with residue 0 at its side
+/// 0.
 pub fn is_root_of_its_kind(tess: &Tessellation, a: &Automaton, s: u32) -> bool
     requires closed { IsClosedTable tess.now a.now }
     requires state { s < length a.now.states }
-    ensures { IsTrue result ↔ ((k : ℕ) → k < length tess.now → root_at a.now k ≡ s → ((state_at a.now s).kind ≡ k) × ((state_at a.now s).off ≡ 0)) }
+    ensures { IsTrue result
+        ↔ ((k : ℕ) → k < length tess.now → root_at a.now k ≡ s
+        → ((state_at a.now s).kind ≡ k) × ((state_at a.now s).off ≡ 0)) }
 {
     let state = a.state(s);
     for k in 0..tess.kinds() {

@@ -1,4 +1,5 @@
-// The conditions on the sides and claims of states, which make the tables describe one tree in the tessellation.
+// The conditions on the sides and claims of states, which make the tables describe one tree in the
+// tessellation.
 ghost use Rattle.std.specs.Prelude.{◌≡◌, ◌<◌, ◌↔◌, ℕ, suc, length, IsTrue, IfNone, IfSome, OnOk, IfErr};
 ghost use Rattle.tree_model.specs.declared.Claim.{Claim};
 ghost use Rattle.tree_model.specs.Automata.{side_count, claim_at, corner_valence, previous, further};
@@ -48,7 +49,8 @@ fn is_further(claim: Claim, before: Claim) -> bool
     claim.corner == before.corner && claim.place as u16 == before.place as u16 + 1
 }
 
-/// Whether side 0 is Parent in a state that is no root and no other side is, no child is a root, and roots fit their kinds.
+/// Whether side 0 is Parent in a state that is no root and no other side is, no child is a root,
+/// and roots fit their kinds.
 fn has_parent_rule(tess: &Tessellation, a: &Automaton, s: u32, i: u8) -> bool
     requires closed { IsClosedTable tess.now a.now }
     requires state { s < length a.now.states }
@@ -133,13 +135,16 @@ fn has_outer_behind(tess: &Tessellation, a: &Automaton, s: u32, i: u8) -> bool
         || is_further(a.claim(s, i), a.outer(claim_before(tess, a, s, i).corner))
 }
 
-/// Whether child `c` across side `i` has the claims at both ends of the side, each seen from its own place, which lies one level deeper.
+/// Whether child `c` across side `i` has the claims at both ends of the side, each seen from its
+/// own place, which lies one level deeper.
 fn has_child_claims(tess: &Tessellation, a: &Automaton, s: u32, i: u8, c: u32) -> bool
     requires closed { IsClosedTable tess.now a.now }
     requires state { s < length a.now.states }
     requires side { i < side_count tess.now a.now s }
     requires child { c < length a.now.states }
-    requires right_inner { suc (claim_at a.now s (previous (side_count tess.now a.now s) i)).place < corner_valence a.now (claim_at a.now s (previous (side_count tess.now a.now s) i)).corner }
+    requires right_inner { suc (claim_at a.now s (previous (side_count tess.now a.now s) i)).place
+        < corner_valence a.now
+        (claim_at a.now s (previous (side_count tess.now a.now s) i)).corner }
     requires left_inner { 0 < (claim_at a.now s i).place }
     ensures { IsTrue result ↔ HasChildClaims tess.now a.now s i c }
 {
@@ -194,7 +199,8 @@ fn failing_side(condition: SideCondition, tess: &Tessellation, a: &Automaton, s:
     requires closed { IsClosedTable tess.now a.now }
     requires ready { IsSideReady condition tess.now a.now }
     requires state { s < length a.now.states }
-    ensures none { IfNone result (SidesBelow condition tess.now a.now s (side_count tess.now a.now s)) }
+    ensures none { IfNone result
+        (SidesBelow condition tess.now a.now s (side_count tess.now a.now s)) }
     ensures side { IfSome result (λ i. i < side_count tess.now a.now s) }
     ensures fails { IfSome result (λ i. ¬ (SideHolds condition tess.now a.now s i)) }
     ensures before { IfSome result (λ i. SidesBelow condition tess.now a.now s i) }

@@ -92,7 +92,8 @@ fn has_offsets(a: &Automaton, g: u32) -> bool
     3 <= offsets.len() && offsets.len() <= 64 && offsets[0] == 0 && are_small(offsets)
 }
 
-/// Whether the outer of a corner type is a corner type, with one more place behind the place that it names.
+/// Whether the outer of a corner type is a corner type, with one more place behind the place that
+/// it names.
 fn has_outer(a: &Automaton, g: u32) -> bool
     requires { g < length a.now.corners }
     ensures { IsTrue result ↔ HasOuter a.now g }

@@ -1,5 +1,5 @@
 // Automata of which it is known by hand whether they are accepted, and where not.
-use crate::check;
+use crate::{check, first_broken};
 use rules_data::Rule::{Child, Left, Parent, Right};
 use rules_data::{Automaton, Claim, Corner, Rule, State};
 use std::alloc::{AllocError, Global};
@@ -54,7 +54,8 @@ fn corner(
     })
 }
 
-// The states of pentagons, four at a corner, with this rule at side 2 of state 2, and the corner types handed in.
+// The states of pentagons, four at a corner, with this rule at side 2 of state 2, and the corner
+// types handed in.
 fn pentagons(alloc: Global, rule: Rule, corners: Vec<Corner>) -> Result<Automaton, AllocError> {
     let one = [Parent, Right, Child(1), Child(1), Child(2)];
     let two = [Parent, Right, rule, Child(2), Left];
@@ -88,15 +89,15 @@ fn threes(alloc: Global, rank: u32) -> Result<Vec<Corner>, AllocError> {
     Ok(corners)
 }
 
-// The least broken condition and its place, if there is one. What is accepted has both parts, and what is refused gives them back.
-fn first_broken(tess: Tessellation, a: Automaton) -> Option<(u8, u32, u8)> {
-    match check(tess, a) {
-        Ok(rules) => {
-            let (_tess, _a) = rules.into_parts();
-            None
-        }
-        Err((_tess, _a, broken)) => Some((broken.condition, broken.first, broken.second)),
-    }
+// The least broken condition and its place, if there is one, as `first_broken` finds it in the parts
+// that `check` has accepted, or has given back.
+fn found(tess: Tessellation, a: Automaton) -> Option<(u8, u32, u8)> {
+    let (tess, a) = match check(tess, a) {
+        Ok(rules) => rules.into_parts(),
+        Err((tess, a, _)) => (tess, a),
+    };
+    let broken = first_broken(&tess, &a)?;
+    Some((broken.condition, broken.first, broken.second))
 }
 
 #[test]
@@ -121,7 +122,7 @@ fn finds_the_first_broken_place(rt: HostRuntime) -> Result<(), Fail> {
         let Ok(tess) = Tessellation::make(kinds) else {
             panic!(rt; "no tessellation");
         };
-        assert_eq!(rt; first_broken(tess, a), want);
+        assert_eq!(rt; found(tess, a), want);
     }
     Ok(())
 }
@@ -204,7 +205,7 @@ fn accepts_three_at_a_corner(rt: HostRuntime) -> Result<(), Fail> {
         let Ok(tess) = Tessellation::make(kinds) else {
             panic!(rt; "no tessellation");
         };
-        assert_eq!(rt; first_broken(tess, a), want);
+        assert_eq!(rt; found(tess, a), want);
     }
     let a = three_at_a_corner(alloc, heptagons_and_hexagons(alloc)?, &[0, 1], 1)?;
     let mut kinds = vec![in alloc; kind(alloc, 7, &[(1, 0)], &[3])?]?;

@@ -6,10 +6,10 @@ use Rattle.std.proofs.lemmas.List.{append-nil, length-map}
 use Rattle.std.proofs.lemmas.Bool.{cases_Bool}
 use Rattle.tile_model.specs.Tessellations.{TileKind, kind_at, IsType, cross, valence as valence_of}
 use Rattle.tile_model.specs.Validity.{IsValid}
-use Rattle.tile_kinds.proofs.Types.{cross_at_type}
+use Rattle.tile_model.proofs.Types.{cross_is}
 use Rattle.tess_text.specs.declared.entry.Entry.{Entry}
 use Rattle.tess_text.specs.declared.entry.Entry.TheVariants.{Kind, Corner}
-use Rattle.tess_text.specs.Lines.{word_lines}
+use Rattle.tess_text.specs.FileLines.{word_lines}
 use Rattle.tess_text.specs.Grammar.{entries, shapes, IsSide, is_same, partner, valence, valence_in, head, IsGoodEnd, IsGoodAt}
 use Rattle.tess_text.specs.Spelling.{Spells, IsSpelling}
 use Rattle.tess_text.specs.Text.{is_before, kind_entries, partner_entries, join_entries, valence_entries, corner_entries, all_entries, entries_text, tess_text}
@@ -89,7 +89,7 @@ module _ (kinds : List TileKind) (valid : IsValid kinds) where
       let first = partners_good kinds valid k 0 kind.partner done j (λ i small.
       let n : 0 + i ≡ i = omega arith in
       let of_type : IsType kinds (k, i) = (lt, omega (arith, size)) in
-      rw n ((of_type, ap (λ (x : TileKind). get_or x.partner i (0, 0)) is ∙ sym (cross_at_type kinds (k, i) of_type)))) in
+      rw n ((of_type, ap (λ (x : TileKind). get_or x.partner i (0, 0)) is ∙ sym (cross_is kinds (k, i) of_type)))) in
       let m : 0 + length kind.partner ≡ (kind_at kinds k).repeat = omega (arith, size) in
       let joined : Joins kinds valid (done ++ partner_entries k 0 kind.partner) (k + 1, 0) = next_kind (done ++ partner_entries k 0 kind.partner) k (rw m at first.joins) in
       let second = joins_good (k + 1) rest (done ++ partner_entries k 0 kind.partner) joined (omega arith) (λ i small. at (suc i) (omega arith) ∙ ap (λ (n : ℕ). kind_at kinds n) (omega arith)) in

@@ -5,7 +5,7 @@ use Rattle.std.specs.List.{position_or_len, slice_split, onto_first}
 use Rattle.std.proofs.lemmas.List.Splits.{slice_split_first}
 use Rattle.std.proofs.lemmas.Bool.{cases_lt}
 use Rattle.std.proofs.lemmas.List.{drop_all, take_all}
-use Rattle.tess_text.specs.Lines.{lines, is_nonempty, is_separator, words}
+use Rattle.tess_text.specs.FileLines.{lines, is_nonempty, is_separator, words}
 
 -- the place of the first line feed
 abbrev end : List ℕ → ℕ

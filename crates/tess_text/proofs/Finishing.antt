@@ -7,7 +7,7 @@ use Rattle.std.proofs.lemmas.List.{length-map, get_or-map}
 use Rattle.std.proofs.Math.ListN.{get_or-map as map_at}
 use Rattle.std.proofs.lemmas.List.Elements.{All-from_get_or}
 use Rattle.tile_model.specs.Tessellations.{TileKind, no_kind, kind_at, IsType, cross, valence as valence_of}
-use Rattle.tile_kinds.proofs.Types.{cross_at_type}
+use Rattle.tile_model.proofs.Types.{cross_is}
 use Rattle.tess_text.specs.declared.entry.Entry.{Entry}
 use Rattle.tess_text.specs.Grammar.{entries, shapes, partner, valence, IsSide, IsGoodEnd}
 use Rattle.tess_text.specs.Spelling.{Spells}
@@ -50,7 +50,7 @@ module _ (kinds : List TileKind) (es : List Entry) (hold : Hold (map table_of ki
       sym (hold.joined d)
       ∙ ap (λ (t : Table). get_or t.partner d.1 None) (at d.0)
       ∙ some_at (kind_at kinds d.0).partner d.1 (0, 0) (omega (arith, partners d.0 of_type.0, of_type.1))
-      ∙ ap (λ (p : ℕ × ℕ). Some p) (sym (cross_at_type kinds d of_type))
+      ∙ ap (λ (p : ℕ × ℕ). Some p) (sym (cross_is kinds d of_type))
 
   given : (d : ℕ × ℕ) → IsType kinds d → valence es d ≡ Some (valence_of kinds d)
   given d of_type =

@@ -8,7 +8,7 @@ use Rattle.std.proofs.lemmas.Bool.{cases_Bool}
 use Rattle.std.proofs.lemmas.Bool.Decides.{nat_tests}
 use Rattle.tile_model.specs.Tessellations.{TileKind, no_kind, kind_at, IsType, cross}
 use Rattle.tile_model.specs.Validity.{IsValid}
-use Rattle.tile_kinds.proofs.Types.{repeat_at_most}
+use Rattle.tile_model.proofs.Types.{repeat_le_sides}
 use Rattle.tess_text.specs.declared.entry.Entry.{Entry}
 use Rattle.tess_text.specs.declared.entry.Entry.TheVariants.{Join}
 use Rattle.tess_text.specs.Grammar.{shapes, IsSide, is_same, partner, partner_in, valence}
@@ -62,7 +62,10 @@ module _ (kinds : List TileKind) (valid : IsValid kinds) where
       (omega (arith, ap (λ (l : List (ℕ × ℕ)). length l) shaped, length-map kinds shape, side.0), omega (arith, repeat, side.1))
 
   pub repeat_small : (k : ℕ) → k < length kinds → (kind_at kinds k).repeat ≤ 64
-  repeat_small k lt = repeat_at_most kinds k (record { count = valid.count; sides = valid.sides; repeat = valid.repeat }) lt
+  repeat_small k lt =
+      let has = valid.sides k lt in
+      let small = repeat_le_sides (kind_at kinds k) has (valid.repeat k lt) in
+      omega (arith, small, has.1)
 
   pub kind_byte : (k : ℕ) → k < length kinds → k < 2 ^ 8
   kind_byte k lt = omega (arith, valid.count.1)

@@ -6,7 +6,7 @@ use Rattle.std.proofs.lemmas.List.{append-nil, length-append, take_at}
 use Rattle.std.proofs.Math.Seq.{get_or-append_seam}
 use Rattle.std.proofs.lemmas.Bool.{cases_lt}
 use Rattle.tess_text.specs.declared.entry.Entry.{Entry}
-use Rattle.tess_text.specs.Lines.{is_nonempty}
+use Rattle.tess_text.specs.FileLines.{is_nonempty}
 use Rattle.tess_text.specs.Grammar.{entry, entries, has_begun, head, IsGoodEntry, IsGoodLine, IsGoodEnd, IsGoodAt}
 use Rattle.tess_text.proofs.Reading.{begun-push, entries_some}
 use Rattle.tess_text.proofs.Spaced.{AllSmall, entry_words, entry_of_words}

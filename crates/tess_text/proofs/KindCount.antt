@@ -3,40 +3,28 @@ use Rattle.std.proofs.Common.{◌≡◌, ◌≢◌, ℕ, zero, suc, ◌<◌, ◌
 use Rattle.std.specs.Prelude.{Option, Result, IfErr, codes}
 use Rattle.std.specs.declared.result.Result.TheVariants.{Ok, Err}
 use Rattle.std.specs.Str.{bytes_eq}
-use Rattle.std.specs.Str.Parse.{digits_value}
 use Rattle.std.proofs.lemmas.List.{length-append, length-map, take_all}
 use Rattle.std.proofs.Math.Seq.{take-suc}
 use Rattle.std.proofs.lemmas.Bool.{cases_Bool}
-use Rattle.std.proofs.lemmas.Bool.Decides.{nat_tests}
 use Rattle.tile_model.specs.Tessellations.{TileKind}
 use Rattle.tile_model.specs.Validity.{HasCount}
-use Rattle.tile_kinds.specs.declared.fault.KindFault.{KindFault}
-use Rattle.tile_kinds.specs.declared.fault.KindFault.TheVariants.{Count}
+use Rattle.tile_model.specs.declared.fault.KindFault.{KindFault}
+use Rattle.tile_model.specs.declared.fault.KindFault.TheVariants.{Count}
 use Rattle.tess_text.specs.declared.fault.TessFault.{TessFault}
 use Rattle.tess_text.specs.declared.fault.TessFault.TheVariants.{Line, Kinds, Memory}
 use Rattle.tess_text.specs.declared.entry.Entry.{Entry}
 use Rattle.tess_text.specs.declared.entry.Entry.TheVariants.{Kind, Join, Corner}
-use Rattle.tess_text.specs.Lines.{word_lines}
-use Rattle.tess_text.specs.Grammar.{number, is_number, kind_entry, join_entry, corner_entry, entry, entries, shapes, has_begun, IsGoodEntry, IsGoodLine, IsGoodAt}
+use Rattle.tess_text.specs.FileLines.{word_lines}
+use Rattle.tess_text.specs.Grammar.{small_number, kind_entry, join_entry, corner_entry, entry, entries, shapes, has_begun, IsGoodEntry, IsGoodLine, IsGoodAt}
 use Rattle.tess_text.specs.Spelling.{IsSpelling, IsRefused, IsFaultOf}
+use Rattle.tess_text.proofs.Numbers.{word_within}
 use Rattle.tess_text.proofs.Reading.{entries_some, entries_none}
 use Rattle.tess_text.proofs.Entering.{shapes-push}
 
 -- a number is at most 255
-number_small : (word : List ℕ) (n : ℕ) → number word ≡ Some n → n ≤ 255
-unfolding number
-number_small word n is = elim (cases_Bool (is_number word)) [
-  | inl holds ↦
-      let told : Some (digits_value 10 word) ≡ Some n = rw holds at is in
-      let e : digits_value 10 word ≡ n = cc in
-      let within : digits_value 10 word ≤ 255 = grind (arith, nat_tests) in
-      omega (arith, e, within)
-  | inr fails ↦ let none : None ≡ Some n = rw fails at is in absurd (cc)
-]
-
-first_small : (fields : List (List ℕ)) (n : ℕ) (more : List (Option ℕ)) → map number fields ≡ Some n ∷ more → n ≤ 255
+first_small : (fields : List (List ℕ)) (n : ℕ) (more : List (Option ℕ)) → map small_number fields ≡ Some n ∷ more → n ≤ 255
 first_small [] n more is = absurd (cc)
-first_small (word ∷ fields) n more is = number_small word n (cc)
+first_small (word ∷ fields) n more is = word_within word n (cc)
 
 -- so the number of a kind is, and no other line is a kind line
 kind_fields : (ns : List (Option ℕ)) (k sides repeat : ℕ) → ((n : ℕ) (more : List (Option ℕ)) → ns ≡ Some n ∷ more → n ≤ 255) → kind_entry ns ≡ Some (Kind k sides repeat) → k ≤ 255
@@ -74,11 +62,11 @@ corner_fields (Some a ∷ Some b ∷ Some c ∷ d ∷ ns) k sides repeat is = ab
 kind_small : (line : List (List ℕ)) (k sides repeat : ℕ) → entry line ≡ Some (Kind k sides repeat) → k ≤ 255
 kind_small [] k sides repeat is = absurd (cc)
 kind_small (word ∷ fields) k sides repeat is = elim (cases_Bool (bytes_eq word (codes "kind"))) [
-  | inl kind ↦ kind_fields (map number fields) k sides repeat (first_small fields) (rw kind at is)
+  | inl kind ↦ kind_fields (map small_number fields) k sides repeat (first_small fields) (rw kind at is)
   | inr no_kind ↦ elim (cases_Bool (bytes_eq word (codes "join"))) [
-    | inl join ↦ absurd (join_fields (map number fields) k sides repeat (rw (no_kind, join) at is))
+    | inl join ↦ absurd (join_fields (map small_number fields) k sides repeat (rw (no_kind, join) at is))
     | inr no_join ↦ elim (cases_Bool (bytes_eq word (codes "corner"))) [
-      | inl corner ↦ absurd (corner_fields (map number fields) k sides repeat (rw (no_kind, no_join, corner) at is))
+      | inl corner ↦ absurd (corner_fields (map small_number fields) k sides repeat (rw (no_kind, no_join, corner) at is))
       | inr no_corner ↦ let no : None ≡ Some (Kind k sides repeat) = rw (no_kind, no_join, no_corner) at is in absurd (cc)
     ]
   ]

@@ -10,3 +10,4 @@ pub mod GoodLines
 pub mod GoodEntries
 pub mod Canonical
 pub mod KindCount
+pub mod Places

@@ -7,15 +7,15 @@ use Rattle.std.proofs.Math.ListN.{get_or-map}
 use Rattle.std.proofs.lemmas.Bool.{cases_order}
 use Rattle.tile_model.specs.Tessellations.{TileKind, no_kind, kind_at, IsType, cross, valence as valence_of}
 use Rattle.tile_model.specs.Validity.{IsValid}
-use Rattle.tile_kinds.specs.declared.fault.KindFault.{KindFault}
-use Rattle.tile_kinds.specs.Faults.{IsFault}
-use Rattle.tile_kinds.proofs.Types.{cross_at_type}
-use Rattle.tile_kinds.proofs.Refused.{refuted}
-use Rattle.tile_kinds.proofs.OneFault.{one_fault}
+use Rattle.tile_model.specs.declared.fault.KindFault.{KindFault}
+use Rattle.tile_model.specs.Faults.{IsFault}
+use Rattle.tile_model.proofs.Types.{cross_is}
+use Rattle.tile_model.proofs.Refused.{refuted}
+use Rattle.tile_model.proofs.OneFault.{one_fault}
 use Rattle.tess_text.specs.declared.entry.Entry.{Entry}
 use Rattle.tess_text.specs.declared.fault.TessFault.{TessFault}
 use Rattle.tess_text.specs.declared.fault.TessFault.TheVariants.{Line, Kinds, Memory}
-use Rattle.tess_text.specs.Lines.{word_lines}
+use Rattle.tess_text.specs.FileLines.{word_lines}
 use Rattle.tess_text.specs.Grammar.{entries, IsInGrammar, IsFirstBadAt, IsFirstBadLine}
 use Rattle.tess_text.specs.Spelling.{Spells, IsSpelling, IsRefused, IsFaultOf}
 
@@ -71,8 +71,8 @@ module _ (es : List Entry) (a b : List TileKind) (x : Spells es a) (y : Spells e
       same_lists (kind_at a k).partner (kind_at b k).partner (x.partners k lt ∙ same_repeat k ∙ sym (y.partners k there)) (λ s d small.
       let of_type : IsType a (k, s) = (lt, omega (arith, x.partners k lt)) in
       let small_there : s < length (kind_at b k).partner = omega (arith, x.partners k lt, same_repeat k, y.partners k there) in
-      get_or_default (kind_at a k).partner s d (0, 0) small ∙ sym (cross_at_type a (k, s) of_type) ∙ same_cross (k, s) of_type
-      ∙ cross_at_type b (k, s) (type_there (k, s) of_type) ∙ get_or_default (kind_at b k).partner s (0, 0) d small_there)
+      get_or_default (kind_at a k).partner s d (0, 0) small ∙ sym (cross_is a (k, s) of_type) ∙ same_cross (k, s) of_type
+      ∙ cross_is b (k, s) (type_there (k, s) of_type) ∙ get_or_default (kind_at b k).partner s (0, 0) d small_there)
 
   same_valences : (k : ℕ) → k < length a → (kind_at a k).valence ≡ (kind_at b k).valence
   same_valences k lt =

@@ -9,7 +9,7 @@ use Rattle.std.proofs.Math.Seq.{take-suc, drop-cons}
 use Rattle.std.proofs.lemmas.List.Elements.{filter_map-append}
 use Rattle.std.proofs.lemmas.Bool.{cases_lt}
 use Rattle.tess_text.specs.declared.entry.Entry.{Entry}
-use Rattle.tess_text.specs.Lines.{lines, content, words, word_lines, is_nonempty}
+use Rattle.tess_text.specs.FileLines.{lines, content, words, word_lines, is_nonempty}
 use Rattle.tess_text.specs.Grammar.{entry, entries, has_begun, head, IsGoodEntry, IsGoodLine, IsGoodEnd, IsGoodAt, IsFirstBadAt, IsFirstBadLine}
 use Rattle.tess_text.specs.Spelling.{Spells, IsSpelling}
 use Rattle.tess_text.specs.Tables.{Table, Hold, IsRead}

@@ -1,18 +1,20 @@
 -- The words of a line of the canonical text: each stands behind one space.
 use Rattle.std.proofs.Common.{◌≡◌, ℕ, suc, ◌+◌, ◌<◌, ◌≤◌, ◌^◌, true, false, List, [], ◌∷◌, ◌++◌, length, map, refl, ◌∙◌, ap, arith, append_assoc, codes, decimal, Some}
 use Rattle.std.specs.Prelude.{◌==◌, filter}
-use Rattle.std.specs.List.{position_or_len, slice_split, onto_first, list_all}
-use Rattle.std.specs.Char.{is_ascii_digit, digit_value}
-use Rattle.std.specs.Str.Parse.{AllDigits}
-use Rattle.std.proofs.lemmas.Fmt.{decimal_is_IsNumeral, decimal_nonempty, length-decimal-le}
+use Rattle.std.specs.List.{position_or_len, slice_split, onto_first}
+use Rattle.std.specs.Char.{digit_value}
+use Rattle.std.specs.Str.{all_ascii_digits}
+use Rattle.std.specs.Str.Parse.{AllDigits, digits_value}
+use Rattle.std.proofs.lemmas.Fmt.{decimal_is_IsNumeral, decimal_nonempty, length-decimal-le, digits_decimal, digits_value-decimal}
+use Rattle.std.proofs.lemmas.Str.Parse.{numerals_by_value, tells_all_ascii_digits}
 use Rattle.std.proofs.lemmas.List.{append-nil}
 use Rattle.std.proofs.lemmas.Bool.Decides.{nat_tests}
 use Rattle.tess_text.specs.declared.entry.Entry.{Entry}
 use Rattle.tess_text.specs.declared.entry.Entry.TheVariants.{Kind, Join, Corner}
-use Rattle.tess_text.specs.Lines.{lines, content, is_separator, is_nonempty, words, word_lines}
-use Rattle.tess_text.specs.Grammar.{number, entry}
+use Rattle.tess_text.specs.FileLines.{lines, content, is_separator, is_nonempty, words, word_lines}
+use Rattle.tess_text.specs.Grammar.{small_number, entry}
 use Rattle.tess_text.specs.Text.{numbers_text, entry_text, entries_text}
-use Rattle.tess_text.proofs.Numbers.{number_some}
+use Rattle.tess_text.proofs.Numbers.{number_some, word_some}
 
 -- letters and digits: all stand above # among the bytes
 abbrev pub IsPlain : List ℕ → Type 0
@@ -101,24 +103,20 @@ plain_digits (c ∷ cs) all = (plain_digit c all.0, plain_digits cs all.1)
     plain_digit : (b : ℕ) → digit_value b < 10 → 35 < b
     plain_digit b digit = grind (arith, nat_tests)
 
-ascii_digits : (ds : List ℕ) → AllDigits 10 ds → list_all is_ascii_digit ds ≡ true
-ascii_digits [] all = refl
-ascii_digits (c ∷ cs) all = rw (ascii_digit c all.0) (ascii_digits cs all.1)
-  where
-    ascii_digit : (b : ℕ) → digit_value b < 10 → is_ascii_digit b ≡ true
-    ascii_digit b digit = grind (arith, nat_tests)
-
 pub decimal_word : (n : ℕ) → n < 2 ^ 8 → IsWord (decimal n)
 decimal_word n small =
     let wide : n < 2 ^ 64 = omega arith in
     (decimal_nonempty n wide, plain_digits (decimal n) (decimal_is_IsNumeral n wide).0.1)
 
-pub number-decimal : (n : ℕ) → n < 2 ^ 8 → number (decimal n) ≡ Some n
+pub number-decimal : (n : ℕ) → n < 2 ^ 8 → small_number (decimal n) ≡ Some n
 number-decimal n small =
     let wide : n < 2 ^ 64 = omega arith in
     let short : length (decimal n) ≤ 3 = length-decimal-le 3 n (omega arith) (omega arith) wide in
-    let is = decimal_is_IsNumeral n wide in
-    number_some (decimal n) n (decimal_nonempty n wide) (omega arith) (ascii_digits (decimal n) is.0.1) is.1 (omega arith)
+    let by_test = numerals_by_value _ tells_all_ascii_digits in
+    let digits : all_ascii_digits (decimal n) ≡ true = digits_decimal by_test n wide in
+    let value : digits_value 10 (decimal n) ≡ n = digits_value-decimal by_test n wide in
+    let is = number_some (decimal n) n (decimal_nonempty n wide) (omega arith) digits value in
+    word_some (decimal n) n is (omega arith)
 
 -- each number of the entry is a byte
 abbrev pub IsSmall : Entry → Type 0

@@ -1,22 +1,23 @@
--- The grammar of a tessellation file. A line is given by its words, and it is good or bad after the lines before it.
-use Rattle.std.specs.Prelude.{◌≡◌, ℕ, suc, ◌<◌, ◌≤◌, Bool, true, false, ◌==◌, ◌&&◌, nat_lt, nat_le, if◌then◌else◌, List, [], ◌∷◌, length, map, take, slice_index_or, Option, IsSome, codes}
+-- The grammar of a tessellation file. A line is given by its words, and it is good or bad after the
+-- lines before it.
+use Rattle.std.specs.Prelude.{◌≡◌, ℕ, suc, ◌<◌, ◌≤◌, Bool, true, false, ◌==◌, ◌&&◌, nat_le, if◌then◌else◌, List, [], ◌∷◌, length, map, take, slice_index_or, Option, IsSome, codes}
 use Rattle.std.specs.declared.option.Option.TheVariants.{Some, None}
 use Rattle.std.specs.Option.{option_or}
-use Rattle.std.specs.List.{list_all, list_any, filter_map}
-use Rattle.std.specs.Char.{is_ascii_digit}
+use Rattle.std.specs.List.{list_any, filter_map}
 use Rattle.std.specs.Str.{bytes_eq}
-use Rattle.std.specs.Str.Parse.{digits_value}
+use Rattle.short_numbers.specs.Numbers.{number}
 use Rattle.tess_text.specs.declared.entry.Entry.{Entry}
 use Rattle.tess_text.specs.declared.entry.Entry.TheVariants.{Kind, Join, Corner}
-use Rattle.tess_text.specs.Lines.{is_nonempty, word_lines}
+use Rattle.tess_text.specs.FileLines.{is_nonempty, word_lines}
 
--- a number: one to nine digits with a value of at most 255
-abbrev pub is_number : List ℕ → Bool
-is_number word = nat_lt 0 (length word) && nat_le (length word) 9 && list_all is_ascii_digit word && nat_le (digits_value 10 word) 255
+-- a number of a file is at most 255
+abbrev pub small : Option ℕ → Option ℕ
+small None = None
+small (Some n) = if nat_le n 255 then Some n else None
 
--- the number that a word is, if it is one
-unfoldable pub number : List ℕ → Option ℕ
-number word = if is_number word then Some (digits_value 10 word) else None
+-- the number that a word is, if it is one: one to nine digits with a value of at most 255
+unfoldable pub small_number : List ℕ → Option ℕ
+small_number word = small (number word)
 
 -- `kind K SIDES REPEAT`
 abbrev pub kind_entry : List (Option ℕ) → Option Entry
@@ -36,7 +37,11 @@ corner_entry _ = None
 -- what the words of a line say of the tessellation, if anything
 abbrev pub entry : List (List ℕ) → Option Entry
 entry [] = None
-entry (word ∷ fields) = if bytes_eq word (codes "kind") then kind_entry (map number fields) else if bytes_eq word (codes "join") then join_entry (map number fields) else if bytes_eq word (codes "corner") then corner_entry (map number fields) else None
+entry (word ∷ fields) =
+    if bytes_eq word (codes "kind") then kind_entry (map small_number fields)
+    else if bytes_eq word (codes "join") then join_entry (map small_number fields)
+    else if bytes_eq word (codes "corner") then corner_entry (map small_number fields)
+    else None
 
 -- all that these lines say of the tessellation
 abbrev pub entries : List (List (List ℕ)) → List Entry
@@ -60,7 +65,10 @@ is_same d e = (d.0 == e.0) && (d.1 == e.1)
 -- the side that a line joins to side d, if it is a join of d
 abbrev pub partner_in : Entry → ℕ × ℕ → Option (ℕ × ℕ)
 partner_in (Kind k sides repeat) d = None
-partner_in (Join k s k2 s2) d = if is_same d (k, s) then Some (k2, s2) else if is_same d (k2, s2) then Some (k, s) else None
+partner_in (Join k s k2 s2) d =
+    if is_same d (k, s) then Some (k2, s2)
+    else if is_same d (k2, s2) then Some (k, s)
+    else None
 partner_in (Corner k s v) d = None
 
 -- the side that is joined to side d, if one is
@@ -89,8 +97,8 @@ pub record IsUngiven (es : List Entry) (d : ℕ × ℕ) : Type 0 where
   pub side : IsSide es d
   pub free : valence es d ≡ None
 
--- An entry is good after those before it. A kind has the number of kinds before it; a join has two sides that are not joined yet; a corner
--- is not given yet.
+-- An entry is good after those before it. A kind has the number of kinds before it; a join has two
+-- sides that are not joined yet; a corner is not given yet.
 abbrev pub IsGoodEntry : List Entry → Entry → Type 0
 IsGoodEntry es (Kind k sides repeat) = k ≡ length (shapes es)
 IsGoodEntry es (Join k s k2 s2) = IsUnjoined es (k, s) × IsUnjoined es (k2, s2)
@@ -104,12 +112,15 @@ head = codes "tess" ∷ codes "1" ∷ []
 abbrev pub has_begun : List (List (List ℕ)) → Bool
 has_begun before = list_any is_nonempty before
 
--- A line is good after those before it. The first line with words is the head, and each later line with words says an entry that is good.
+-- A line is good after those before it. The first line with words is the head, and each later line
+-- with words says an entry that is good.
 pub record IsGoodLine (before : List (List (List ℕ))) (line : List (List ℕ)) : Type 0 where
   pub first : has_begun before ≡ false → 0 < length line → line ≡ head
-  pub later : has_begun before ≡ true → 0 < length line → (e : Entry) × (entry line ≡ Some e) × IsGoodEntry (entries before) e
+  pub later : has_begun before ≡ true → 0 < length line
+      → (e : Entry) × (entry line ≡ Some e) × IsGoodEntry (entries before) e
 
--- The end of the file is good after its lines. They have the head and at least a kind, and each side has a partner and a corner.
+-- The end of the file is good after its lines. They have the head and at least a kind, and each
+-- side has a partner and a corner.
 pub record IsGoodEnd (lines : List (List (List ℕ))) : Type 0 where
   pub begun : has_begun lines ≡ true
   pub kinds : 1 ≤ length (shapes (entries lines))

@@ -1,4 +1,4 @@
-pub mod Lines
+pub mod FileLines
 pub mod Grammar
 pub mod Spelling
 pub mod Text

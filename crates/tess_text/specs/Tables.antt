@@ -14,7 +14,13 @@ pub record Table : Type 0 where
 
 -- a kind of which nothing more than its shape has been said
 abbrev pub blank : ℕ → ℕ → Table
-blank sides repeat = record { sides = sides; repeat = repeat; partner = replicate repeat None; valence = replicate repeat None }
+blank sides repeat =
+    record {
+      sides = sides;
+      repeat = repeat;
+      partner = replicate repeat None;
+      valence = replicate repeat None;
+    }
 
 abbrev pub table_at : List Table → ℕ → Table
 table_at tables k = slice_index_or tables k (blank 0 0)
@@ -38,21 +44,31 @@ pub record IsUngivenAt (tables : List Table) (d : ℕ × ℕ) : Type 0 where
   pub free : valence_at tables d ≡ None
 
 abbrev pub put_partner : List Table → ℕ × ℕ → ℕ × ℕ → List Table
-put_partner tables d e = slice_set tables d.0 (record (table_at tables d.0) { partner = slice_set (table_at tables d.0).partner d.1 (Some e) })
+put_partner tables d e =
+    slice_set tables d.0 (record (table_at tables d.0) {
+      partner = slice_set (table_at tables d.0).partner d.1 (Some e);
+    })
 
 abbrev pub put_valence : List Table → ℕ × ℕ → ℕ → List Table
-put_valence tables d v = slice_set tables d.0 (record (table_at tables d.0) { valence = slice_set (table_at tables d.0).valence d.1 (Some v) })
+put_valence tables d v =
+    slice_set tables d.0 (record (table_at tables d.0) {
+      valence = slice_set (table_at tables d.0).valence d.1 (Some v);
+    })
 
 -- the tables hold what the entries say
 pub record Hold (tables : List Table) (es : List Entry) : Type 0 where
   pub shapes : map (λ (t : Table). (t.sides, t.repeat)) tables ≡ shapes es
-  pub partners : (k : ℕ) → k < length tables → length (table_at tables k).partner ≡ (table_at tables k).repeat
-  pub valences : (k : ℕ) → k < length tables → length (table_at tables k).valence ≡ (table_at tables k).repeat
+  pub partners : (k : ℕ) → k < length tables
+      → length (table_at tables k).partner ≡ (table_at tables k).repeat
+  pub valences : (k : ℕ) → k < length tables
+      → length (table_at tables k).valence ≡ (table_at tables k).repeat
   pub joined : (d : ℕ × ℕ) → partner_at tables d ≡ partner es d
   pub given : (d : ℕ × ℕ) → valence_at tables d ≡ valence es d
 
--- What the lines so far have said is read: whether the first with words has come, and tables that hold the rest.
-pub record IsRead (started : Bool) (tables : List Table) (lines : List (List (List ℕ))) : Type 0 where
+-- What the lines so far have said is read: whether the first with words has come, and tables that
+-- hold the rest.
+pub record IsRead (started : Bool) (tables : List Table)
+    (lines : List (List (List ℕ))) : Type 0 where
   pub begun : started ≡ has_begun lines
   pub hold : Hold tables (entries lines)
 
@@ -63,4 +79,10 @@ pub record IsFull (t : Table) : Type 0 where
 
 -- the table of a kind of which all has been said
 abbrev pub table_of : TileKind → Table
-table_of kind = record { sides = kind.sides; repeat = kind.repeat; partner = map (λ p. Some p) kind.partner; valence = map (λ v. Some v) kind.valence }
+table_of kind =
+    record {
+      sides = kind.sides;
+      repeat = kind.repeat;
+      partner = map (λ p. Some p) kind.partner;
+      valence = map (λ v. Some v) kind.valence;
+    }

@@ -32,7 +32,8 @@ is_before d e = nat_lt d.0 e.0 || ((d.0 == e.0) && nat_lt d.1 e.1)
 -- the joins of kind k from residue s on, but those whose partner stands before the side
 abbrev pub partner_entries : ℕ → ℕ → List (ℕ × ℕ) → List Entry
 partner_entries k s [] = []
-partner_entries k s (p ∷ ps) = (if is_before p (k, s) then [] else Join k s p.0 p.1 ∷ []) ++ partner_entries k (s + 1) ps
+partner_entries k s (p ∷ ps) =
+    (if is_before p (k, s) then [] else Join k s p.0 p.1 ∷ []) ++ partner_entries k (s + 1) ps
 
 -- the joins of all kinds, the first of which has number k
 abbrev pub join_entries : ℕ → List TileKind → List Entry

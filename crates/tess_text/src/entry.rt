@@ -1,10 +1,11 @@
 // What the lines of a text say of a tessellation.
 ghost use Rattle.std.specs.Prelude.{◌≡◌, ◌∷◌, [], List, ℕ, Option, map, IfSome, IfNone};
 ghost use Rattle.std.specs.declared.option.Option.TheVariants.{Some};
-ghost use Rattle.tess_text.specs.Lines.{words};
-ghost use Rattle.tess_text.specs.Grammar.{number, kind_entry, join_entry, corner_entry, entry};
+ghost use Rattle.tess_text.specs.FileLines.{words};
+ghost use Rattle.tess_text.specs.Grammar.{small_number, kind_entry, join_entry, corner_entry, entry};
 
 use crate::scan::next_word;
+use short_numbers::read_number;
 
 /// What a line says of the tessellation.
 #[derive(Clone, Copy, Debug, PartialEq, Eq)]
@@ -27,36 +28,30 @@ pub enum Entry {
     },
 }
 
-/// The number that a word is, if it is one.
-fn number(word: &[u8]) -> Option<u8>
-    ensures { result ≡ number word.now }
+/// The number that a word is, if it is one of 0 to 255.
+fn small_number(word: &[u8]) -> Option<u8>
+    ensures { result ≡ small_number word.now }
 {
-    if word.is_empty() || word.len() > 9 {
-        return None;
-    }
-    let mut value = 0u32;
-    for digit in word {
-        if !digit.is_ascii_digit() {
-            return None;
-        }
-        value = (value * 10 + u32::from(*digit - b'0')).min(256);
-    }
-    u8::try_from(value).ok()
+    u8::try_from(read_number(word)?).ok()
 }
 
 /// The number that the first word of a text is, and what stands behind that word.
 fn next_number(text: &[u8]) -> Option<(u8, &[u8])>
-    ensures some { IfSome result (λ p. map number (words text.now) ≡ Some p.0 ∷ map number (words p.1.now)) }
-    ensures none { IfNone result ((n : ℕ) (more : List (Option ℕ)) → map number (words text.now) ≡ Some n ∷ more → ⊥) }
+    ensures some { IfSome result
+        (λ p. map small_number (words text.now) ≡ Some p.0 ∷ map small_number (words p.1.now)) }
+    ensures none { IfNone result ((n : ℕ) (more : List (Option ℕ))
+        → map small_number (words text.now) ≡ Some n ∷ more → ⊥) }
 {
     let (word, rest) = next_word(text)?;
-    Some((number(word)?, rest))
+    Some((small_number(word)?, rest))
 }
 
 /// The numbers that the words of a text are, where it has three words and each is a number.
 fn three_numbers(text: &[u8]) -> Option<(u8, u8, u8)>
-    ensures some { IfSome result (λ p. map number (words text.now) ≡ Some p.0 ∷ Some p.1 ∷ Some p.2 ∷ []) }
-    ensures none { IfNone result ((a b c : ℕ) → map number (words text.now) ≡ Some a ∷ Some b ∷ Some c ∷ [] → ⊥) }
+    ensures some { IfSome result
+        (λ p. map small_number (words text.now) ≡ Some p.0 ∷ Some p.1 ∷ Some p.2 ∷ []) }
+    ensures none { IfNone result ((a b c : ℕ)
+        → map small_number (words text.now) ≡ Some a ∷ Some b ∷ Some c ∷ [] → ⊥) }
 {
     let (a, rest) = next_number(text)?;
     let (b, rest) = next_number(rest)?;
@@ -69,8 +64,10 @@ fn three_numbers(text: &[u8]) -> Option<(u8, u8, u8)>
 
 /// The numbers that the words of a text are, where it has four words and each is a number.
 fn four_numbers(text: &[u8]) -> Option<(u8, u8, u8, u8)>
-    ensures some { IfSome result (λ p. map number (words text.now) ≡ Some p.0 ∷ Some p.1 ∷ Some p.2 ∷ Some p.3 ∷ []) }
-    ensures none { IfNone result ((a b c d : ℕ) → map number (words text.now) ≡ Some a ∷ Some b ∷ Some c ∷ Some d ∷ [] → ⊥) }
+    ensures some { IfSome result
+        (λ p. map small_number (words text.now) ≡ Some p.0 ∷ Some p.1 ∷ Some p.2 ∷ Some p.3 ∷ []) }
+    ensures none { IfNone result ((a b c d : ℕ)
+        → map small_number (words text.now) ≡ Some a ∷ Some b ∷ Some c ∷ Some d ∷ [] → ⊥) }
 {
     let (a, rest) = next_number(text)?;
     let (b, rest) = next_number(rest)?;
@@ -83,7 +80,7 @@ fn four_numbers(text: &[u8]) -> Option<(u8, u8, u8, u8)>
 }
 
 fn kind_entry(fields: &[u8]) -> Option<Entry>
-    ensures { result ≡ kind_entry (map number (words fields.now)) }
+    ensures { result ≡ kind_entry (map small_number (words fields.now)) }
 {
     let (kind, sides, repeat) = three_numbers(fields)?;
     Some(Entry::Kind {
@@ -94,7 +91,7 @@ fn kind_entry(fields: &[u8]) -> Option<Entry>
 }
 
 fn join_entry(fields: &[u8]) -> Option<Entry>
-    ensures { result ≡ join_entry (map number (words fields.now)) }
+    ensures { result ≡ join_entry (map small_number (words fields.now)) }
 {
     let (kind, residue, other, at) = four_numbers(fields)?;
     Some(Entry::Join {
@@ -106,7 +103,7 @@ fn join_entry(fields: &[u8]) -> Option<Entry>
 }
 
 fn corner_entry(fields: &[u8]) -> Option<Entry>
-    ensures { result ≡ corner_entry (map number (words fields.now)) }
+    ensures { result ≡ corner_entry (map small_number (words fields.now)) }
 {
     let (kind, residue, valence) = three_numbers(fields)?;
     Some(Entry::Corner {

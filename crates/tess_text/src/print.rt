@@ -61,7 +61,8 @@ fn push_entry(out: &mut Vec<u8>, entry: Entry) -> Result<(), AllocError>
 
 fn push_kinds(out: &mut Vec<u8>, kinds: &[Kind]) -> Result<(), AllocError>
     requires { length kinds.now ≤ 256 }
-    ensures { OnOk result (out.new.items ≡ out.old.items ++ entries_text (kind_entries 0 kinds.now)) }
+    ensures { OnOk result (out.new.items
+        ≡ out.old.items ++ entries_text (kind_entries 0 kinds.now)) }
 {
     for k in 0..kinds.len() {
         let kind = &kinds[k];
@@ -77,7 +78,8 @@ fn push_kinds(out: &mut Vec<u8>, kinds: &[Kind]) -> Result<(), AllocError>
 
 fn push_partners(out: &mut Vec<u8>, k: u8, partner: &[(u8, u8)]) -> Result<(), AllocError>
     requires { length partner.now ≤ 256 }
-    ensures { OnOk result (out.new.items ≡ out.old.items ++ entries_text (partner_entries k 0 partner.now)) }
+    ensures { OnOk result (out.new.items
+        ≡ out.old.items ++ entries_text (partner_entries k 0 partner.now)) }
 {
     for s in 0..partner.len() {
         let (other, at) = partner[s];
@@ -98,7 +100,8 @@ fn push_partners(out: &mut Vec<u8>, k: u8, partner: &[(u8, u8)]) -> Result<(), A
 fn push_joins(out: &mut Vec<u8>, kinds: &[Kind]) -> Result<(), AllocError>
     requires few { length kinds.now ≤ 256 }
     requires lists { (k : ℕ) → k < length kinds.now → length (kind_at kinds.now k).partner ≤ 256 }
-    ensures { OnOk result (out.new.items ≡ out.old.items ++ entries_text (join_entries 0 kinds.now)) }
+    ensures { OnOk result (out.new.items
+        ≡ out.old.items ++ entries_text (join_entries 0 kinds.now)) }
 {
     for k in 0..kinds.len() {
         let kind = &kinds[k];
@@ -109,7 +112,8 @@ fn push_joins(out: &mut Vec<u8>, kinds: &[Kind]) -> Result<(), AllocError>
 
 fn push_valences(out: &mut Vec<u8>, k: u8, valence: &[u8]) -> Result<(), AllocError>
     requires { length valence.now ≤ 256 }
-    ensures { OnOk result (out.new.items ≡ out.old.items ++ entries_text (valence_entries k 0 valence.now)) }
+    ensures { OnOk result (out.new.items
+        ≡ out.old.items ++ entries_text (valence_entries k 0 valence.now)) }
 {
     for s in 0..valence.len() {
         let entry = Entry::Corner {
@@ -125,7 +129,8 @@ fn push_valences(out: &mut Vec<u8>, k: u8, valence: &[u8]) -> Result<(), AllocEr
 fn push_corners(out: &mut Vec<u8>, kinds: &[Kind]) -> Result<(), AllocError>
     requires few { length kinds.now ≤ 256 }
     requires lists { (k : ℕ) → k < length kinds.now → length (kind_at kinds.now k).valence ≤ 256 }
-    ensures { OnOk result (out.new.items ≡ out.old.items ++ entries_text (corner_entries 0 kinds.now)) }
+    ensures { OnOk result (out.new.items
+        ≡ out.old.items ++ entries_text (corner_entries 0 kinds.now)) }
 {
     for k in 0..kinds.len() {
         let kind = &kinds[k];
@@ -136,8 +141,10 @@ fn push_corners(out: &mut Vec<u8>, kinds: &[Kind]) -> Result<(), AllocError>
 
 fn push_all(out: &mut Vec<u8>, kinds: &[Kind]) -> Result<(), AllocError>
     requires few { length kinds.now ≤ 256 }
-    requires partners { (k : ℕ) → k < length kinds.now → length (kind_at kinds.now k).partner ≤ 256 }
-    requires valences { (k : ℕ) → k < length kinds.now → length (kind_at kinds.now k).valence ≤ 256 }
+    requires partners { (k : ℕ) → k < length kinds.now
+        → length (kind_at kinds.now k).partner ≤ 256 }
+    requires valences { (k : ℕ) → k < length kinds.now
+        → length (kind_at kinds.now k).valence ≤ 256 }
     ensures { OnOk result (out.new.items ≡ out.old.items ++ entries_text (all_entries kinds.now)) }
 {
     push_kinds(out, kinds)?;
@@ -145,12 +152,13 @@ fn push_all(out: &mut Vec<u8>, kinds: &[Kind]) -> Result<(), AllocError>
     push_corners(out, kinds)
 }
 
-/// The canonical text of a tessellation: `tess 1`, its kinds, its joins and its corners, a line each. `read_tess` gives the tessellation
-/// back, since the text spells it and no other.
+/// The canonical text of a tessellation: `tess 1`, its kinds, its joins and its corners, a line
+/// each. `read_tess` gives the tessellation back, since the text spells it and no other.
 pub fn print_tess(alloc: Global, t: &Tessellation) -> Result<Vec<u8>, AllocError>
     ensures text { IfOk result (λ out. out.items ≡ tess_text t.now) }
     ensures spelling { IfOk result (λ out. IsSpelling out.items t.now) }
-    ensures of_no_other { IfOk result (λ out. (kinds : List TileKind) → IsSpelling out.items kinds → kinds ≡ t.now) }
+    ensures of_no_other { IfOk result
+        (λ out. (kinds : List TileKind) → IsSpelling out.items kinds → kinds ≡ t.now) }
 {
     let mut out = Vec::from_slice(alloc, b"tess 1\n")?;
     push_all(&mut out, t.all_kinds())?;

@@ -2,8 +2,8 @@
 ghost use Rattle.std.specs.Prelude.{◌≡◌, ◌≢◌, ◌<◌, ◌-◌, ◌^◌, ◌↔◌, ◌++◌, ◌∷◌, [], ℕ, List, length, IsTrue, IfOk, IfErr, MatchBool, MatchOption, MatchResult, ◌⊎◌};
 ghost use Rattle.tile_model.specs.Tessellations.{TileKind};
 ghost use Rattle.tile_model.specs.Validity.{IsValid};
-ghost use Rattle.tile_kinds.specs.declared.fault.KindFault.{KindFault};
-ghost use Rattle.tess_text.specs.Lines.{content, words};
+ghost use Rattle.tile_model.specs.declared.fault.KindFault.{KindFault};
+ghost use Rattle.tess_text.specs.FileLines.{content, words};
 ghost use Rattle.tess_text.specs.Grammar.{entries, head, IsGoodLine, IsGoodEnd, IsFirstBadLine};
 ghost use Rattle.tess_text.specs.Spelling.{Spells, IsSpelling, IsRefused, IsFaultOf};
 ghost use Rattle.tess_text.specs.Tables.{IsRead};
@@ -37,7 +37,12 @@ struct Reader {
 impl Reader {
     /// Reads one line more. The answer is whether it is good after those before it.
     fn read_line(&mut self, alloc: Global, line: &[u8]) -> Result<bool, AllocError>
-        ensures { (before : List (List (List ℕ))) → IsRead self.old.begun self.old.tables before → IfOk result (λ good. MatchBool good (IsGoodLine before (words (content line.now)) × IsRead self.new.begun self.new.tables (before ++ words (content line.now) ∷ [])) (IsGoodLine before (words (content line.now)) → ⊥)) }
+        ensures { (before : List (List (List ℕ))) → IsRead self.old.begun self.old.tables before
+            → IfOk result (λ good. MatchBool good
+            (IsGoodLine before (words (content line.now))
+            × IsRead self.new.begun self.new.tables
+            (before ++ words (content line.now) ∷ []))
+            (¬ (IsGoodLine before (words (content line.now))))) }
     {
         let Some((word, fields)) = next_word(content(line)) else {
             return Ok(true);
@@ -54,7 +59,10 @@ impl Reader {
 
     /// The kinds, if the end of the text is good after these lines.
     fn finish(&self, alloc: Global) -> Result<Option<Vec<Kind>>, AllocError>
-        ensures { (lines : List (List (List ℕ))) → IsRead self.now.begun self.now.tables lines → IfOk result (λ kinds. MatchOption kinds (IsGoodEnd lines → ⊥) (λ kinds. IsGoodEnd lines × Spells (entries lines) kinds.items)) }
+        ensures { (lines : List (List (List ℕ))) → IsRead self.now.begun self.now.tables lines
+            → IfOk result (λ kinds. MatchOption kinds
+            (¬ (IsGoodEnd lines))
+            (λ kinds. IsGoodEnd lines × Spells (entries lines) kinds.items)) }
     {
         if !self.begun || self.tables.is_empty() {
             return Ok(None);
@@ -87,9 +95,10 @@ fn read_kinds(alloc: Global, bytes: &[u8]) -> Result<Vec<Kind>, TessFault>
     }
 }
 
-/// Reads the text of a tessellation, of fewer than 2^32 - 1 bytes. `TessFault::Line` is the first bad line, counted from 1, where the
-/// end of the text counts as a line. `TessFault::Kinds` comes where no line is bad and the kinds are no tessellation, with the fault
-/// that `Tessellation::make` gives.
+/// Reads the text of a tessellation, of fewer than 2^32 - 1 bytes. `TessFault::Line` is the first
+/// bad line, counted from 1, where the end of the text counts as a line. `TessFault::Kinds` comes
+/// where no line is bad and the kinds are no tessellation, with the fault that `Tessellation::make`
+/// gives.
 pub fn read_tess(alloc: Global, bytes: &[u8]) -> Result<Tessellation, TessFault>
     requires { length bytes.now < 2 ^ 32 - 1 }
     ensures spelling { IfOk result (λ t. IsSpelling bytes.now t) }
@@ -97,9 +106,12 @@ pub fn read_tess(alloc: Global, bytes: &[u8]) -> Result<Tessellation, TessFault>
     ensures cause { IfErr result (IsFaultOf bytes.now) }
 
     // And each answer comes wherever its cause is there, unless memory runs out.
-    ensures every_spelling { (kinds : List TileKind) → IsSpelling bytes.now kinds → IsValid kinds → MatchResult result (λ t. t ≡ kinds) (λ e. e ≡ TessFault.Memory) }
-    ensures every_bad_line { (n : ℕ) → IsFirstBadLine bytes.now n → MatchResult result (λ _. ⊥) (λ e. (e ≡ TessFault.Line n) ⊎ (e ≡ TessFault.Memory)) }
-    ensures every_refusal { (fault : KindFault) → IsRefused bytes.now fault → MatchResult result (λ _. ⊥) (λ e. (e ≡ TessFault.Kinds fault) ⊎ (e ≡ TessFault.Memory)) }
+    ensures every_spelling { (kinds : List TileKind) → IsSpelling bytes.now kinds → IsValid kinds
+        → MatchResult result (λ t. t ≡ kinds) (λ e. e ≡ TessFault.Memory) }
+    ensures every_bad_line { (n : ℕ) → IsFirstBadLine bytes.now n
+        → MatchResult result (λ _. ⊥) (λ e. (e ≡ TessFault.Line n) ⊎ (e ≡ TessFault.Memory)) }
+    ensures every_refusal { (fault : KindFault) → IsRefused bytes.now fault
+        → MatchResult result (λ _. ⊥) (λ e. (e ≡ TessFault.Kinds fault) ⊎ (e ≡ TessFault.Memory)) }
 
     // No text leads to the fault of the number of kinds.
     ensures no_count { ¬ (IsRefused bytes.now KindFault.Count) }

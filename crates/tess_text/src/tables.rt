@@ -12,7 +12,9 @@ use tile_kinds::Kind;
 
 /// What has been said for each residue, if something has been for all.
 fn all_said<T: Copy>(alloc: Global, said: &[Option<T>]) -> Result<Option<Vec<T>>, AllocError>
-    ensures { IfOk result (λ all. MatchOption all (All (λ x. IsSome x) said.now → ⊥) (λ all. map (λ x. Some x) all.items ≡ said.now)) }
+    ensures { IfOk result
+        (λ all. MatchOption all (All (λ x. IsSome x) said.now → ⊥)
+        (λ all. map (λ x. Some x) all.items ≡ said.now)) }
 {
     let mut all = Vec::with_capacity(alloc, said.len())?;
     for x in said {
@@ -38,13 +40,19 @@ impl Model for Table {
 
     ghost Value = { Table };
 
-    ghost view = { λ t. record { sides = t.sides; repeat = t.repeat; partner = t.partner.items; valence = t.valence.items } };
+    ghost view = { λ t. record {
+      sides = t.sides;
+      repeat = t.repeat;
+      partner = t.partner.items;
+      valence = t.valence.items;
+    } };
 }
 
 impl Table {
     /// The kind of this table, if nothing is missing.
     fn finish(&self, alloc: Global) -> Result<Option<Kind>, AllocError>
-        ensures { IfOk result (λ kind. MatchOption kind (IsFull self.now → ⊥) (λ kind. table_of kind ≡ self.now)) }
+        ensures { IfOk result
+            (λ kind. MatchOption kind (IsFull self.now → ⊥) (λ kind. table_of kind ≡ self.now)) }
     {
         let Some(partner) = all_said(alloc, &self.partner)? else {
             return Ok(None);
@@ -153,7 +161,8 @@ impl Tables {
     /// Joins two sides. The answer is whether both are there and neither has been joined.
     fn join(&mut self, side: (u8, u8), other: (u8, u8)) -> bool
         ensures good { IsTrue result ↔ (IsUnjoinedAt self.old side × IsUnjoinedAt self.old other) }
-        ensures joined { IsTrue result → self.new ≡ put_partner (put_partner self.old side other) other side }
+        ensures joined { IsTrue result
+            → self.new ≡ put_partner (put_partner self.old side other) other side }
     {
         if !self.is_unjoined(side) || !self.is_unjoined(other) {
             return false;
@@ -177,7 +186,10 @@ impl Tables {
 
     /// Enters what a line says. The answer is whether it is good after what the tables hold.
     pub fn enter(&mut self, alloc: Global, entry: Entry) -> Result<bool, AllocError>
-        ensures { (es : List Entry) → Hold self.old es → IfOk result (λ good. MatchBool good (IsGoodEntry es entry × Hold self.new (es ++ entry ∷ [])) (IsGoodEntry es entry → ⊥)) }
+        ensures { (es : List Entry) → Hold self.old es
+            → IfOk result
+            (λ good. MatchBool good (IsGoodEntry es entry
+            × Hold self.new (es ++ entry ∷ [])) (IsGoodEntry es entry → ⊥)) }
     {
         match entry {
             Entry::Kind {
@@ -207,7 +219,9 @@ impl Tables {
 
     /// The kinds of these tables, if nothing is missing.
     pub fn finish(&self, alloc: Global) -> Result<Option<Vec<Kind>>, AllocError>
-        ensures { IfOk result (λ kinds. MatchOption kinds (All IsFull self.now → ⊥) (λ kinds. map table_of kinds.items ≡ self.now)) }
+        ensures { IfOk result
+            (λ kinds. MatchOption kinds (All IsFull self.now → ⊥)
+            (λ kinds. map table_of kinds.items ≡ self.now)) }
     {
         let mut kinds = Vec::with_capacity(alloc, self.kinds.len())?;
         for table in &self.kinds {

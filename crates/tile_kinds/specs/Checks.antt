@@ -2,7 +2,7 @@
 use Rattle.std.specs.Prelude.{ℕ, List}
 use Rattle.tile_model.specs.Tessellations.{TileKind}
 use Rattle.tile_model.specs.Validity.{HasPartner, HasValence, IsInvolution, HasCorner}
-use Rattle.tile_kinds.specs.Faults.{AllTypes}
+use Rattle.tile_model.specs.Faults.{AllTypes}
 use Rattle.tile_kinds.specs.declared.checks.Check.{Check}
 use Rattle.tile_kinds.specs.declared.checks.Check.TheVariants.{Partner, Valence, Involution, Corner}
 
@@ -13,7 +13,8 @@ Passes Valence = HasValence
 Passes Involution = IsInvolution
 Passes Corner = HasCorner
 
--- what must hold of all types before a check can be tried: partners are types where they are followed
+-- what must hold of all types before a check can be tried: partners are types where they are
+-- followed
 abbrev pub IsReady : Check → List TileKind → Type 0
 IsReady Partner kinds = Unit {0}
 IsReady Valence kinds = Unit {0}

@@ -2,12 +2,12 @@
 ghost use Rattle.std.specs.Prelude.{◌≡◌, ◌<◌, ◌≤◌, length, IsTrue, ◌↔◌, IfSome, IfNone, ℕ};
 ghost use Rattle.tile_model.specs.Tessellations.{IsType, around, around_times, kind_at};
 ghost use Rattle.tile_model.specs.Validity.{HasCount, HasSides, HasRepeat, HasPartner, HasCorner, IsValid};
-ghost use Rattle.tile_kinds.specs.Faults.{AllKinds, AllTypes, IsFault, IsFirstKind, IsFirstType, IsSized};
+ghost use Rattle.tile_model.specs.Faults.{AllKinds, AllTypes, IsFault, IsFirstKind, IsFirstType, IsSized};
 ghost use Rattle.tile_kinds.specs.Checks.{IsReady, Passes};
 
-use crate::fault::KindFault;
 use crate::kinds::{DartType, Kind};
 use crate::moves::{cross_of, has_type, left_of, valence_of};
+use tile_model::KindFault;
 
 /// A check of each type.
 #[derive(Clone, Copy, Debug, PartialEq, Eq)]
@@ -74,7 +74,8 @@ fn failing_residue(check: Check, kinds: &[Kind], k: u8) -> Option<u8>
     requires sized { IsSized kinds.now }
     requires ready { IsReady check kinds.now }
     requires is_kind { k < length kinds.now }
-    ensures none { IfNone result ((s : ℕ) → s < (kind_at kinds.now k).repeat → Passes check kinds.now (k, s)) }
+    ensures none { IfNone result ((s : ℕ) → s < (kind_at kinds.now k).repeat
+        → Passes check kinds.now (k, s)) }
     ensures is_type { IfSome result (λ s. IsType kinds.now (k, s)) }
     ensures fails { IfSome result (λ s. ¬ (Passes check kinds.now (k, s))) }
     ensures lower { IfSome result (λ s. (r : ℕ) → r < s → Passes check kinds.now (k, r)) }
@@ -143,7 +144,8 @@ fn failing_repeat(kinds: &[Kind]) -> Option<u8>
     None
 }
 
-/// The fault of a list of kinds, where it has one: the checks run in their order, each over all kinds and residues.
+/// The fault of a list of kinds, where it has one: the checks run in their order, each over all
+/// kinds and residues.
 pub fn fault(kinds: &[Kind]) -> Option<KindFault>
     ensures none { IfNone result (IsValid kinds.now) }
     ensures some { IfSome result (IsFault kinds.now) }

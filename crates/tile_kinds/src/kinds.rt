@@ -4,9 +4,10 @@ ghost use Rattle.std.specs.Prelude.{◌≡◌, IfOk};
 use std::alloc::{AllocError, Global};
 use std::marker::Model;
 
-/// A kind of tile. `sides` is the number of its sides. Sides whose numbers are equal modulo `repeat` are alike, so both lists hold one
-/// entry for each residue below `repeat`: the kind and the residue of the side across, and the number of tiles round the corner at the
-/// left end of the side. Any numbers may stand here; `Tessellation::make` checks them.
+/// A kind of tile. `sides` is the number of its sides. Sides whose numbers are equal modulo
+/// `repeat` are alike, so both lists hold one entry for each residue below `repeat`: the kind and
+/// the residue of the side across, and the number of tiles round the corner at the left end of the
+/// side. Any numbers may stand here; `Tessellation::make` checks them.
 #[derive(Debug, Drop)]
 pub struct Kind {
     pub sides: u8,
@@ -20,7 +21,12 @@ impl Model for Kind {
 
     ghost Value = { TileKind };
 
-    ghost view = { λ k. record { sides = k.sides; repeat = k.repeat; partner = k.partner.items; valence = k.valence.items } };
+    ghost view = { λ k. record {
+      sides = k.sides;
+      repeat = k.repeat;
+      partner = k.partner.items;
+      valence = k.valence.items;
+    } };
 }
 
 impl Kind {

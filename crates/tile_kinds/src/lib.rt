@@ -2,14 +2,13 @@
 #![tactic(auto)]
 
 mod checks;
-mod fault;
 mod kinds;
 mod moves;
 mod tessellation;
 
-pub use fault::KindFault;
 pub use kinds::{DartType, Kind};
 pub use tessellation::Tessellation;
+pub use tile_model::KindFault;
 
 #[cfg(test)]
 mod tests;

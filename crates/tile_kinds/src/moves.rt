@@ -1,7 +1,7 @@
 // The moves from type to type in a list of kinds whose sides and repeats are right.
 ghost use Rattle.std.specs.Prelude.{◌≡◌, IsTrue, ◌↔◌};
 ghost use Rattle.tile_model.specs.Tessellations.{IsType, left, right, cross, valence};
-ghost use Rattle.tile_kinds.specs.Faults.{IsSized};
+ghost use Rattle.tile_model.specs.Faults.{IsSized};
 
 use crate::kinds::{DartType, Kind};
 
@@ -16,7 +16,7 @@ pub fn has_type(kinds: &[Kind], t: DartType) -> bool
 }
 
 /// The type of the next side to the left.
-#[tactic(auto, using(crate::proofs::Types::left_at_type, crate::proofs::Types::repeat_at_most))]
+#[tactic(auto, using(tile_model::proofs::Types::left_is, crate::proofs::Types::repeat_at_most))]
 pub fn left_of(kinds: &[Kind], t: DartType) -> DartType
     requires sized { IsSized kinds.now }
     requires is_type { IsType kinds.now t }
@@ -31,7 +31,7 @@ pub fn left_of(kinds: &[Kind], t: DartType) -> DartType
 }
 
 /// The type of the next side to the right.
-#[tactic(auto, using(crate::proofs::Types::right_at_type, crate::proofs::Types::repeat_at_most))]
+#[tactic(auto, using(tile_model::proofs::Types::right_is, crate::proofs::Types::repeat_at_most))]
 pub fn right_of(kinds: &[Kind], t: DartType) -> DartType
     requires sized { IsSized kinds.now }
     requires is_type { IsType kinds.now t }
@@ -46,7 +46,7 @@ pub fn right_of(kinds: &[Kind], t: DartType) -> DartType
 }
 
 /// The type of the side across.
-#[tactic(auto, using(crate::proofs::Types::cross_at_type))]
+#[tactic(auto, using(tile_model::proofs::Types::cross_is))]
 pub fn cross_of(kinds: &[Kind], t: DartType) -> DartType
     requires sized { IsSized kinds.now }
     requires is_type { IsType kinds.now t }

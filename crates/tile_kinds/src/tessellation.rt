@@ -4,11 +4,11 @@ ghost use Rattle.tile_model.specs.Tessellations.{IsType, kind_at, left, right, c
 ghost use Rattle.tile_model.specs.Validity.{IsValid};
 
 use crate::checks::fault;
-use crate::fault::KindFault;
 use crate::kinds::{DartType, Kind};
 use crate::moves::{cross_of, has_type, left_of, right_of, valence_of};
 use std::alloc::{AllocError, Global};
 use std::marker::Model;
+use tile_model::KindFault;
 
 /// A tessellation: a list of kinds that has passed all checks.
 #[derive(Debug, Drop)]
@@ -29,17 +29,19 @@ impl Model for Tessellation {
 }
 
 impl Tessellation {
-    ghost use Rattle.tile_kinds.specs.declared.fault.KindFault.{KindFault};
-    ghost use Rattle.tile_kinds.specs.Faults.{IsFault};
+    ghost use Rattle.tile_model.specs.declared.fault.KindFault.{KindFault};
+    ghost use Rattle.tile_model.specs.Faults.{IsFault};
 
-    /// Makes a tessellation of 1 to 256 kinds. A list that is not valid is handed back as it was, with its first fault in the order of
-    /// `KindFault`, at its least kind and residue. Takes no memory.
+    /// Makes a tessellation of 1 to 256 kinds. A list that is not valid is handed back as it was,
+    /// with its first fault in the order of `KindFault`, at its least kind and residue. Takes no
+    /// memory.
     pub fn make(kinds: Vec<Kind>) -> Result<Tessellation, (Vec<Kind>, KindFault)>
         ensures exactly { IsOk result ↔ IsValid kinds.items }
         ensures kept { IfOk result (λ t. t ≡ kinds.items) }
         ensures handed_back { IfErr result (λ e. e.0 ≡ kinds) }
         ensures first_fault { IfErr result (λ e. IsFault kinds.items e.1) }
-        ensures no_other_fault { IfErr result (λ e. (fault : KindFault) → IsFault kinds.items fault → fault ≡ e.1) }
+        ensures no_other_fault { IfErr result
+            (λ e. (fault : KindFault) → IsFault kinds.items fault → fault ≡ e.1) }
     {
         match fault(&kinds) {
             None => Ok(Tessellation { kinds }),
@@ -71,7 +73,8 @@ impl Tessellation {
         &self.kinds[k as usize]
     }
 
-    /// Whether `t` is a type here: its kind is there, and its residue is below the repeat of that kind.
+    /// Whether `t` is a type here: its kind is there, and its residue is below the repeat of that
+    /// kind.
     pub fn has(&self, t: DartType) -> bool
         ensures { IsTrue result ↔ IsType self.now t }
     {

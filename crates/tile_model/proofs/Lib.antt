@@ -4,3 +4,6 @@ pub mod Relations
 pub mod Inverses
 pub mod SameTile
 pub mod Distances
+pub mod WalkTexts
+pub mod Refused
+pub mod OneFault

@@ -1,8 +1,9 @@
 -- Tessellations by kinds of tile, the types of their sides, and the moves from type to type.
 use Rattle.std.specs.Prelude.{ℕ, zero, suc, ◌+◌, ◌-◌, ◌%◌, ◌<◌, List, [], length, slice_index_or, Bool, nat_lt, ◌&&◌, if◌then◌else◌}
 
--- A kind of tile: its number of sides, its repeat (sides whose numbers are equal modulo the repeat are alike), and for each
--- residue below the repeat the partner of that side and the valence of the corner at its left end.
+-- A kind of tile: its number of sides, its repeat (sides whose numbers are equal modulo the repeat
+-- are alike), and for each residue below the repeat the partner of that side and the valence of the
+-- corner at its left end.
 pub record TileKind : Type 0 where
   pub sides : ℕ
   pub repeat : ℕ
@@ -30,7 +31,9 @@ left kinds d = if is_type kinds d then (d.0, (d.1 + 1) % (kind_at kinds d.0).rep
 
 -- the next side to the right; a pair that is no type is left alone
 abbrev pub right : List TileKind → ℕ × ℕ → ℕ × ℕ
-right kinds d = if is_type kinds d then (d.0, (d.1 + ((kind_at kinds d.0).repeat - 1)) % (kind_at kinds d.0).repeat) else d
+right kinds d =
+    if is_type kinds d
+    then (d.0, (d.1 + ((kind_at kinds d.0).repeat - 1)) % (kind_at kinds d.0).repeat) else d
 
 -- the side at the other side of the edge; a pair that is no type is left alone
 abbrev pub cross : List TileKind → ℕ × ℕ → ℕ × ℕ

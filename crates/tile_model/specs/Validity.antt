@@ -1,4 +1,5 @@
--- When a list of kinds is a tessellation: seven points, each of all kinds and residues, in the order in which they are tried.
+-- When a list of kinds is a tessellation: seven points, each of all kinds and residues, in the
+-- order in which they are tried.
 use Rattle.std.specs.Prelude.{◌≡◌, ℕ, ◌%◌, ◌<◌, ◌≤◌, List, length}
 use Rattle.tile_model.specs.Tessellations.{TileKind, kind_at, IsType, cross, valence, around, around_times}
 
@@ -10,7 +11,8 @@ HasCount kinds = (1 ≤ length kinds) × (length kinds ≤ 256)
 abbrev pub HasSides : TileKind → Type 0
 HasSides kind = (3 ≤ kind.sides) × (kind.sides ≤ 64)
 
--- The repeat of a kind is at least 1, divides the number of its sides, and is the length of both of its lists.
+-- The repeat of a kind is at least 1, divides the number of its sides, and is the length of both of
+-- its lists.
 pub record HasRepeat (kind : TileKind) : Type 0 where
   pub positive : 1 ≤ kind.repeat
   pub divides : kind.sides % kind.repeat ≡ 0
@@ -29,7 +31,8 @@ HasValence kinds d = (3 ≤ valence kinds d) × (valence kinds d ≤ 64)
 abbrev pub IsInvolution : List TileKind → ℕ × ℕ → Type 0
 IsInvolution kinds d = cross kinds (cross kinds d) ≡ d
 
--- All tiles round a corner give it one valence, and going round it as often as the valence says leads back.
+-- All tiles round a corner give it one valence, and going round it as often as the valence says
+-- leads back.
 pub record HasCorner (kinds : List TileKind) (d : ℕ × ℕ) : Type 0 where
   pub one_valence : valence kinds (around kinds d) ≡ valence kinds d
   pub closes : around_times kinds (valence kinds d) d ≡ d

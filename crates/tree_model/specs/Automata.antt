@@ -1,26 +1,29 @@
--- Tree automata as plain lists, and their tables read by number. Where there is no such entry, something stands for it.
+-- Tree automata as plain lists, and their tables read by number. Where there is no such entry,
+-- something stands for it.
 use Rattle.std.specs.Prelude.{ℕ, zero, suc, ◌+◌, ◌-◌, ◌%◌, List, [], length, slice_index_or, ℤ, pos, nat_eq, if◌then◌else◌}
 use Rattle.tile_model.specs.Tessellations.{TileKind, kind_at}
 use Rattle.tree_model.specs.declared.Rule.{Rule}
 use Rattle.tree_model.specs.declared.Rule.TheVariants.{Parent}
 use Rattle.tree_model.specs.declared.Claim.{Claim}
 
--- A state of a tile: its kind, the residue of its side 0, a rule for each side, and for each corner what it claims of it. Corner i lies
--- between sides i and i + 1.
+-- A state of a tile: its kind, the residue of its side 0, a rule for each side, and for each corner
+-- what it claims of it. Corner i lies between sides i and i + 1.
 pub record TreeState : Type 0 where
   pub kind : ℕ
   pub off : ℕ
   pub rules : List Rule
   pub claims : List Claim
 
--- A corner type: for each place the depth of its tile less that of the tile at place 0, the corner at the other end of the key edge with
--- the place at which it has the tile that is at place 0 here, and a rank.
+-- A corner type: for each place the depth of its tile less that of the tile at place 0, the corner
+-- at the other end of the key edge with the place at which it has the tile that is at place 0 here,
+-- and a rank.
 pub record CornerType : Type 0 where
   pub offsets : List ℤ
   pub outer : Claim
   pub rank : ℕ
 
--- An automaton: its states, its corner types, for each kind the state of a root of this kind, and the scale.
+-- An automaton: its states, its corner types, for each kind the state of a root of this kind, and
+-- the scale.
 pub record TreeAutomaton : Type 0 where
   pub states : List TreeState
   pub corners : List CornerType
@@ -74,7 +77,8 @@ side_count kinds a s = (kind_at kinds (state_at a s).kind).sides
 
 -- the type of side i of a tile in state s
 unfoldable pub type_at : List TileKind → TreeAutomaton → ℕ → ℕ → ℕ × ℕ
-type_at kinds a s i = ((state_at a s).kind, ((state_at a s).off + i) % (kind_at kinds (state_at a s).kind).repeat)
+type_at kinds a s i =
+    ((state_at a s).kind, ((state_at a s).off + i) % (kind_at kinds (state_at a s).kind).repeat)
 
 -- the number of the side next to the left of side i, of n sides
 unfoldable pub next : ℕ → ℕ → ℕ

@@ -1,6 +1,7 @@
 pub mod Automata
 pub mod Conditions
 pub mod Contours
+pub mod Limits
 pub mod Names
 pub mod Positions
 pub mod Places

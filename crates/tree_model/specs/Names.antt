@@ -1,4 +1,5 @@
--- The tree that an automaton generates: names of tiles, the states that they reach, their words, and the rings of names.
+-- The tree that an automaton generates: names of tiles, the states that they reach, their words,
+-- and the rings of names.
 use Rattle.std.specs.Prelude.{◌≡◌, ℕ, ◌<◌, ◌↔◌, List, [], ◌∷◌, ◌++◌, length, replicate, Contains, AllPairs}
 use Rattle.tile_model.specs.declared.Letter.{Letter}
 use Rattle.tile_model.specs.declared.Letter.TheVariants.{L, X}
@@ -20,7 +21,9 @@ reached a s (i ∷ name) = reached a (child_of (rule_at a s i)) name
 -- The list is a name below state s: each side in turn is Child in the state reached.
 abbrev pub IsNameBelow : List TileKind → TreeAutomaton → ℕ → List ℕ → Type 0
 IsNameBelow kinds a s [] = Unit {0}
-IsNameBelow kinds a s (i ∷ name) = (i < side_count kinds a s) × (rule_at a s i ≡ Child (child_of (rule_at a s i))) × IsNameBelow kinds a (child_of (rule_at a s i)) name
+IsNameBelow kinds a s (i ∷ name) =
+    (i < side_count kinds a s) × (rule_at a s i ≡ Child (child_of (rule_at a s i)))
+    × IsNameBelow kinds a (child_of (rule_at a s i)) name
 
 -- a name in the tree of kind k
 abbrev pub IsName : List TileKind → TreeAutomaton → ℕ → List ℕ → Type 0
@@ -42,6 +45,7 @@ pub data IsBefore : List ℕ → List ℕ → Type 0 where
   later : (i : ℕ) (m n : List ℕ) → IsBefore m n → IsBefore (i ∷ m) (i ∷ n)
 
 -- Ring d of kind k: the list, in the order of names, of all names of length d in the tree of k.
-pub record IsRing (kinds : List TileKind) (a : TreeAutomaton) (k d : ℕ) (names : List (List ℕ)) : Type 0 where
+pub record IsRing (kinds : List TileKind) (a : TreeAutomaton) (k d : ℕ)
+    (names : List (List ℕ)) : Type 0 where
   pub ordered : AllPairs IsBefore names
   pub members : (name : List ℕ) → Contains names name ↔ (IsName kinds a k name × (length name ≡ d))

@@ -13,6 +13,7 @@ abbrev pub position_word : Position → List Letter
 position_word p = word p.name ++ replicate p.side L
 
 -- p is a place of the walk u from side 0 of kind k
-pub record IsPlace (kinds : List TileKind) (a : TreeAutomaton) (k : ℕ) (u : List Letter) (p : Position) : Type 0 where
+pub record IsPlace (kinds : List TileKind) (a : TreeAutomaton) (k : ℕ)
+    (u : List Letter) (p : Position) : Type 0 where
   pub position : IsPosition kinds a k p
   pub related : AreRelated kinds (k, 0) (position_word p) u

@@ -31,7 +31,8 @@ last_side [] = 0
 last_side (i ∷ []) = i
 last_side (i ∷ j ∷ name) = last_side (j ∷ name)
 
--- Across a side of the tree: across a Child side lies side 0 of the child, across the side of the parent lies the parent's side of this child.
+-- Across a side of the tree: across a Child side lies side 0 of the child, across the side of the
+-- parent lies the parent's side of this child.
 abbrev pub tree_across : Rule → Position → Position
 tree_across Parent p = record { name = parent p.name; side = last_side p.name }
 tree_across (Child c) p = record { name = p.name ++ p.side ∷ []; side = 0 }
@@ -53,10 +54,12 @@ module _ (kinds : List TileKind) (a : TreeAutomaton) (k : ℕ) where
     pub side : p.side < side_count kinds a (state_of a k p.name)
 
   abbrev pub turn_left : Position → Position
-  turn_left p = record { name = p.name; side = next (side_count kinds a (state_of a k p.name)) p.side }
+  turn_left p =
+      record { name = p.name; side = next (side_count kinds a (state_of a k p.name)) p.side }
 
   abbrev pub turn_right : Position → Position
-  turn_right p = record { name = p.name; side = previous (side_count kinds a (state_of a k p.name)) p.side }
+  turn_right p =
+      record { name = p.name; side = previous (side_count kinds a (state_of a k p.name)) p.side }
 
   abbrev pub rule_of : Position → Rule
   rule_of p = rule_at a (state_of a k p.name) p.side

@@ -1,8 +1,7 @@
--- Texts of walks: each byte is the code of a letter, and no two walks have one text.
-use Rattle.std.proofs.Common.{◌≡◌, ◌≢◌, ℕ, zero, suc, ◌<◌, List, [], ◌∷◌, map, length, get_or, nat_eq, ◌==◌, true, false, if◌then◌else◌, subst, refl, ap, ap₂, arith, ◌∙◌, sym}
+-- Texts of walks: each byte is the code of a letter.
+use Rattle.std.proofs.Common.{◌≡◌, ◌≢◌, ℕ, zero, suc, ◌<◌, List, [], ◌∷◌, map, length, get_or, ◌==◌, true, false, subst, refl, ap, arith, ◌∙◌, sym}
 use Rattle.tile_model.specs.declared.Letter.{Letter}
-use Rattle.tile_model.specs.declared.Letter.TheVariants.{L, R, X}
-use Rattle.walk_words.specs.Text.{letter_code, walk_text}
+use Rattle.tile_model.specs.WalkTexts.{letter_code, walk_text}
 
 code_at : (walk : List Letter) (i : ℕ) → i < length (map letter_code walk) → (x : Letter) × (letter_code x ≡ get_or (map letter_code walk) i 0)
 code_at [] i lt = absurd (omega arith)
@@ -15,30 +14,6 @@ no_walk bytes i lt not_dash none [] is = not_dash (sym is)
 no_walk bytes i lt not_dash none (x ∷ walk) is =
     let at = code_at (x ∷ walk) i (omega (arith, ap length is)) in
     none at.0 (at.1 ∙ ap (λ (l : List ℕ). get_or l i 0) is)
-
--- the letter of a code
-abbrev decode : ℕ → Letter
-decode n = if nat_eq n 76 then L else (if nat_eq n 82 then R else X)
-
-decode_code : (x : Letter) → decode (letter_code x) ≡ x
-decode_code L = refl
-decode_code R = refl
-decode_code X = refl
-
-decode_codes : (walk : List Letter) → map decode (map letter_code walk) ≡ walk
-decode_codes [] = refl
-decode_codes (x ∷ walk) = ap₂ (λ y w. y ∷ w) (decode_code x) (decode_codes walk)
-
-not_dash : (x : Letter) → letter_code x ≢ 45
-not_dash L same = absurd (omega (arith, same))
-not_dash R same = absurd (omega (arith, same))
-not_dash X same = absurd (omega (arith, same))
-
-pub one_walk : (u w : List Letter) → walk_text u ≡ walk_text w → u ≡ w
-one_walk [] [] same = refl
-one_walk [] (x ∷ w) same = absurd (not_dash x (sym (ap (λ (l : List ℕ). get_or l 0 0) same)))
-one_walk (x ∷ u) [] same = absurd (not_dash x (ap (λ (l : List ℕ). get_or l 0 0) same))
-one_walk (x ∷ u) (y ∷ w) same = sym (decode_codes (x ∷ u)) ∙ ap (map decode) same ∙ decode_codes (y ∷ w)
 
 -- the codes of the letters of a walk that is not empty are its text
 pub text_of_codes : (walk : List Letter) → ¬ (walk ≡ []) → walk_text walk ≡ map letter_code walk

@@ -1,7 +1,7 @@
 // The texts of walks, read and printed.
 ghost use Rattle.std.specs.Prelude.{◌≡◌, ◌≢◌, List, IfOk, IfSome, IfNone, IsErrOf, MatchResult};
 ghost use Rattle.tile_model.specs.declared.Letter.{Letter};
-ghost use Rattle.walk_words.specs.Text.{letter_code, walk_text};
+ghost use Rattle.tile_model.specs.WalkTexts.{letter_code, walk_text};
 
 use crate::walk::Walk;
 use std::alloc::{AllocError, Global};
@@ -54,12 +54,14 @@ fn byte_of(x: Letter) -> u8
     }
 }
 
-/// Reads the text of a walk: `-` for the empty walk, else its letters L, R, X. Other bytes, no bytes at all among them, are answered by
-/// `WalkFault::Text`.
+/// Reads the text of a walk: `-` for the empty walk, else its letters L, R, X. Other bytes, no
+/// bytes at all among them, are answered by `WalkFault::Text`.
 pub fn read_walk(alloc: Global, bytes: &[u8]) -> Result<Walk, WalkFault>
     ensures spelled { IfOk result (λ walk. walk_text walk ≡ bytes.now) }
-    ensures complete { (walk : List Letter) → walk_text walk ≡ bytes.now → MatchResult result (λ w. w ≡ walk) (λ fault. fault ≡ WalkFault.Memory) }
-    ensures text { IsErrOf result WalkFault.Text → (walk : List Letter) → walk_text walk ≢ bytes.now }
+    ensures complete { (walk : List Letter) → walk_text walk ≡ bytes.now
+        → MatchResult result (λ w. w ≡ walk) (λ fault. fault ≡ WalkFault.Memory) }
+    ensures text { IsErrOf result WalkFault.Text → (walk : List Letter)
+        → walk_text walk ≢ bytes.now }
 {
     if bytes == b"-".as_slice() {
         return Ok(Walk::new(alloc));
@@ -80,7 +82,8 @@ pub fn read_walk(alloc: Global, bytes: &[u8]) -> Result<Walk, WalkFault>
 /// Prints the text of a walk, which is that of no other walk.
 pub fn print_walk(alloc: Global, w: &Walk) -> Result<Vec<u8>, AllocError>
     ensures value { IfOk result (λ text. text.items ≡ walk_text w.now) }
-    ensures no_other { IfOk result (λ text. (walk : List Letter) → walk_text walk ≡ text.items → walk ≡ w.now) }
+    ensures no_other { IfOk result
+        (λ text. (walk : List Letter) → walk_text walk ≡ text.items → walk ≡ w.now) }
 {
     if w.is_empty() {
         return Vec::from_slice(alloc, b"-");

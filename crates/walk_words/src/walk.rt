@@ -92,10 +92,12 @@ impl Walk {
         count
     }
 
-    /// The way back: the letters in reverse order, L and R exchanged. From every type, the walk followed by the way back comes to nothing.
+    /// The way back: the letters in reverse order, L and R exchanged. From every type, the walk
+    /// followed by the way back comes to nothing.
     pub fn inverse(&self, alloc: Global) -> Result<Walk, AllocError>
         ensures value { IfOk result (λ w. w ≡ inverse self.now) }
-        ensures cancels { IfOk result (λ w. (kinds : List TileKind) (d : ℕ × ℕ) → AreRelated kinds d (self.now ++ w) []) }
+        ensures cancels { IfOk result
+            (λ w. (kinds : List TileKind) (d : ℕ × ℕ) → AreRelated kinds d (self.now ++ w) []) }
     {
         let mut letters = Vec::with_capacity(alloc, self.letters.len())?;
         for x in &self.letters {

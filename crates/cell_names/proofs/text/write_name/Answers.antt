@@ -1,8 +1,9 @@
-use Rattle.std.proofs.Common.{◌≡◌, ℕ, decimal, suc, ◌<◌, List, ◌∷◌, ◌++◌, length, sym, ◌∙◌, ap, arith}
+use Rattle.std.proofs.Common.{◌≡◌, ℕ, decimal, suc, ◌<◌, List, ◌∷◌, ◌++◌, length, sym, ◌∙◌, ap, subst, arith}
 use Rattle.std.proofs.lemmas.List.{append_assoc}
 use Rattle.std.proofs.lemmas.List.Elements.{All-rest}
+use Rattle.cell_names.specs.Name.{IsName}
 use Rattle.cell_names.specs.Text.{name_text}
-use Rattle.cell_names.proofs.Reading.{behind, name_text-cons}
+use Rattle.cell_names.proofs.Reading.{behind, name_text-cons, spells_no_other}
 use Rattle.cell_names.proofs.text.write_name.Goals as goal
 
 pub loop-side-init : goal.loop-side-init
@@ -22,3 +23,6 @@ loop-side-init c =
 pub put_side-requires-in-loop-side-clause-below : goal.put_side-requires-in-loop-side-clause-below
 put_side-requires-in-loop-side-clause-below c =
     All-rest (λ s. s < 64) c.in-Some.first.now c.in-Some.others.now c.sides.result.now c.in-Some.ensures.cases.0 c.sides.ensures.below c.loop-side.side-index 0 c.loop-side-test.true
+
+pub returns-clause-of_no_other : goal.returns-clause-of_no_other
+returns-clause-of_no_other c = spells_no_other c.args.name.now (subst (λ (l : List ℕ). IsName l) c.sides.ensures.value c.sides.ensures.below)

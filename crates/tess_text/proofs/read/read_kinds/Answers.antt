@@ -1,5 +1,5 @@
 use Rattle.std.proofs.Common.{take}
-use Rattle.tess_text.specs.Lines.{word_lines}
+use Rattle.tess_text.specs.FileLines.{word_lines}
 use Rattle.tess_text.proofs.Reading.{stops, goes_on, read_all, end_spells, end_stops}
 use Rattle.tess_text.proofs.read.read_kinds.Goals as goal
 

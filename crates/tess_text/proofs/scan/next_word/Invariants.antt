@@ -1,5 +1,5 @@
 use Rattle.std.proofs.Common.{◌≡◌, length}
-use Rattle.tess_text.specs.Lines.{words}
+use Rattle.tess_text.specs.FileLines.{words}
 use Rattle.tess_text.proofs.scan.next_word.Given as goal
 
 abbrev pub invariant-loop-rest : goal.invariant-loop-rest

@@ -1,7 +1,8 @@
 -- What is printed is the walk's text, and no other walk has it.
 use Rattle.std.proofs.Common.{map, ap, sym, ◌∙◌}
-use Rattle.walk_words.specs.Text.{letter_code}
-use Rattle.walk_words.proofs.Codes.{one_walk, text_of_codes}
+use Rattle.tile_model.specs.WalkTexts.{letter_code}
+use Rattle.tile_model.proofs.WalkTexts.{one_walk}
+use Rattle.walk_words.proofs.Codes.{text_of_codes}
 use Rattle.walk_words.proofs.Ended.{all_written}
 use Rattle.walk_words.proofs.text.print_walk.Goals as goal
 

@@ -1,6 +1,6 @@
 -- What is printed, and the codes of the letters that are left, are the codes of the walk.
 use Rattle.std.proofs.Common.{◌≡◌, ◌++◌, drop, map}
-use Rattle.walk_words.specs.Text.{letter_code}
+use Rattle.tile_model.specs.WalkTexts.{letter_code}
 use Rattle.walk_words.proofs.text.print_walk.Given as goal
 
 abbrev pub invariant-loop-x : goal.invariant-loop-x

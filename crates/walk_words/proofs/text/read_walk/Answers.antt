@@ -1,7 +1,8 @@
 -- A byte that is no letter's code is in no walk's text, and a text is that of the walk read alone.
 use Rattle.std.proofs.Common.{sym, ◌∙◌}
 use Rattle.std.proofs.lemmas.List.{take_all}
-use Rattle.walk_words.proofs.Codes.{no_walk, one_walk, text_of_bytes}
+use Rattle.tile_model.proofs.WalkTexts.{one_walk}
+use Rattle.walk_words.proofs.Codes.{no_walk, text_of_bytes}
 use Rattle.walk_words.proofs.text.read_walk.Goals as goal
 
 pub returns-in_default-clause-text : goal.returns-in_default-clause-text

@@ -1,5 +1,5 @@
 use Rattle.std.proofs.Common.{◌≡◌, List, ℕ, ◌<◌, ◌∷◌, length, ◌∙◌, ap, sym, arith}
-use Rattle.tess_text.specs.Lines.{content, words}
+use Rattle.tess_text.specs.FileLines.{content, words}
 use Rattle.tess_text.specs.Grammar.{entry, entries}
 use Rattle.tess_text.proofs.Reading.{read_blank, read_first_result, read_entry_result}
 use Rattle.tess_text.proofs.read.Reader.read_line.Goals as goal

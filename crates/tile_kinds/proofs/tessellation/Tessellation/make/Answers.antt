@@ -1,8 +1,8 @@
 -- A list with a fault is not valid, and has no other fault.
 use Rattle.std.proofs.Common.{subst}
-use Rattle.tile_kinds.specs.Faults.{IsFault}
-use Rattle.tile_kinds.proofs.Refused.{refuted}
-use Rattle.tile_kinds.proofs.OneFault.{one_fault}
+use Rattle.tile_model.specs.Faults.{IsFault}
+use Rattle.tile_model.proofs.Refused.{refuted}
+use Rattle.tile_model.proofs.OneFault.{one_fault}
 use Rattle.tile_kinds.proofs.tessellation.Tessellation.make.Goals as goal
 
 pub returns-in-Some-clause-exactly : goal.returns-in-Some-clause-exactly

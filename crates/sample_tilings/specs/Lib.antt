@@ -1,0 +1,1 @@
+-- Definitions of this crate: none, its contracts speak of tilings as tile_model has them.
