@@ -12,7 +12,7 @@ use crate::states::all_states;
 use crate::symbol::Symbol;
 use rules_data::Automaton;
 use std::alloc::{AllocError, Global};
-use structure_check::{Rules, check};
+use structure_check::Rules;
 use tile_kinds::Tessellation;
 
 /// The automaton of an infinite regular tessellation.
@@ -54,8 +54,6 @@ pub fn regular(alloc: Global, t: &Tessellation) -> Result<Rules, RegFault>
         return Err(RegFault::Spherical { p, q });
     }
     let tess = t.copy(alloc)?;
-    match check(tess, automaton(alloc, Symbol { p, q })?) {
-        Ok(rules) => Ok(rules),
-        Err((_tess, _automaton, _broken)) => unreachable!(),
-    }
+    let automaton = automaton(alloc, Symbol { p, q })?;
+    Ok(Rules::of_accepted(tess, automaton))
 }

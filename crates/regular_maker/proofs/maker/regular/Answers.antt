@@ -1,5 +1,4 @@
 use Rattle.std.proofs.Common.{◌≡◌, ◌≤◌, ◌*◌, ◌-◌, ℕ, List, ap, ap₂, sym, ◌∙◌, subst, arith}
-use Rattle.std.proofs.lemmas.Bool.{false≢true}
 use Rattle.tile_model.specs.Tessellations.{TileKind, kind_at, valence}
 use Rattle.tree_model.specs.Conditions.{IsAccepted}
 use Rattle.regular_maker.specs.Regular.{IsRegular, IsInfinite, p_of, q_of}
@@ -7,8 +6,8 @@ use Rattle.regular_maker.specs.Automaton.{regular_automaton}
 use Rattle.regular_maker.proofs.Accepted.{accepted}
 use Rattle.regular_maker.proofs.maker.regular.Goals as goal
 
-pub unreachable-requires : goal.unreachable-requires
-unreachable-requires c =
+pub of_accepted-requires : goal.of_accepted-requires
+of_accepted-requires c =
     let tess = c.args.t.now in
     let p : c.sides-p.result ≡ p_of tess
     = c.sides-p.ensures.value
@@ -28,9 +27,7 @@ unreachable-requires c =
     = subst (λ n. 4 ≤ (p_of tess - 2) * (n - 2)) q
     (subst (λ n. 4 ≤ (n - 2) * (c.valence-q.result - 2)) p c.if-p-q-lt4.false) in
     let fits = accepted tess c.kinds.ensures.valid regular infinite in
-    let made : c.in_ok-automaton.field-0 ≡ regular_automaton (p_of tess) (q_of tess)
+    let made : c.in_ok-automaton.automaton ≡ regular_automaton (p_of tess) (q_of tess)
     = c.in_ok-automaton.ensures ∙ ap₂ regular_automaton p q in
-    let there : IsAccepted c.in_ok-tess.tess c.in_ok-automaton.field-0
-    = subst (λ (t : List TileKind). IsAccepted t c.in_ok-automaton.field-0)
-    (sym c.in_ok-tess.ensures) (subst (IsAccepted tess) (sym made) fits) in
-    absurd (false≢true (c.in-Err.ensures.exactly.1 there))
+    subst (λ (t : List TileKind). IsAccepted t c.in_ok-automaton.automaton)
+    (sym c.in_ok-tess.ensures) (subst (IsAccepted tess) (sym made) fits)
