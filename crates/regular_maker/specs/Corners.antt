@@ -1,5 +1,5 @@
--- The corner types of the regular tessellation {p,q}. They depend on q alone. Here m is q divided by
--- 2 and rounded down.
+-- The corner types of the regular tessellation {p,q}. They depend on q alone. Here m is q divided
+-- by 2 and rounded down.
 --
 -- | q    | Type | Offsets                                        | Outer      | Rank | Scale |
 -- | even | 0    | from 0 down to -m by ones, then up to -1       | (0, m - 1) | 0    | 1     |
@@ -10,7 +10,7 @@ use Rattle.std.specs.Prelude.{ℕ, zero, suc, ◌+◌, ◌-◌, ◌*◌, ◌/◌
 use Rattle.tree_model.specs.declared.Claim.{Claim}
 use Rattle.tree_model.specs.Automata.{CornerType}
 
--- m: the place of the tile that lies opposite the tile at place 0
+-- m: the place of the tile of the least depth, the lowest of the corner
 unfoldable pub half : ℕ → ℕ
 half q = q / 2
 
@@ -29,8 +29,7 @@ listed f (suc n) = listed f n ++ f n ∷ []
 unfoldable pub depth_at : ℕ → ℕ → ℕ → ℤ
 depth_at q g t = if nat_le t (half q) then pos 0 -ℤ pos t else pos t -ℤ pos (2 * half q + g)
 
--- The corner at the other end of the key edge: of type 0 for even q, and of the other type for odd
--- q.
+-- The corner at the other end of the key edge: of type 0 for even q, of the other type for odd q.
 unfoldable pub outer_of : ℕ → ℕ → Claim
 outer_of q g = record { corner = parity q - g; place = (half q - 1) + (parity q - g) }
 

@@ -9,5 +9,6 @@ use Rattle.regular_maker.specs.Automaton.{regular_automaton}
 -- Over each regular tessellation with infinitely many tiles it meets the twelve conditions.
 abbrev pub RegularIsAccepted : Type 0
 RegularIsAccepted =
-    (kinds : List TileKind) → IsValid kinds → IsRegular kinds → IsInfinite (p_of kinds) (q_of kinds)
+    (kinds : List TileKind) → IsValid kinds → IsRegular kinds
+    → IsInfinite (p_of kinds) (q_of kinds)
     → IsAccepted kinds (regular_automaton (p_of kinds) (q_of kinds))

@@ -1,5 +1,6 @@
 -- What holds of the pair of each state of {p,q}: the claims lie on the two sides of the lowest tile
--- of their corner, and the run of Right sides ends before that of Left sides begins.
+-- of their corners, that of the least depth at place m, and the run of Right sides ends before that
+-- of Left sides begins.
 use Rattle.std.specs.Prelude.{ℕ, suc, ◌+◌, ◌<◌, ◌≤◌, ◌⊎◌}
 use Rattle.tree_model.specs.declared.Claim.{Claim}
 use Rattle.regular_maker.specs.Corners.{half, parity}
@@ -22,6 +23,7 @@ AreNear q c d =
     (c.place ≤ suc (half q + c.corner)) ⊎ ((half q ≤ suc d.place)
     ⊎ ((c.place ≤ 2 + (half q + c.corner)) × (half q ≤ 2 + d.place)))
 
+-- x may be the pair of a state
 pub record IsPair (p q : ℕ) (x : Pair) : Type 0 where
   pub first : IsBehind q x.first
   pub last : IsAhead q x.last

@@ -1,15 +1,15 @@
 -- The states of a tile of {p,q} other than the root. Each is determined by a pair of claims: that
 -- of the corner behind its parent side, and that of the corner before it. A run of Right sides lies
 -- behind the parent side, a run of Left sides before it, and the sides between the runs lead to
--- children. The claims between the runs are those of a corner that the tile meets first.
+-- children. The claims between the runs are those of corners of which this tile is the lowest, that
+-- is the tile of the least depth.
 use Rattle.std.specs.Prelude.{ℕ, zero, suc, ◌+◌, ◌-◌, List, [], ◌∷◌, ◌++◌, Bool, ◌&&◌, nat_eq, nat_lt, nat_le, if◌then◌else◌}
 use Rattle.tree_model.specs.declared.Claim.{Claim}
 use Rattle.tree_model.specs.Automata.{further}
 use Rattle.regular_maker.specs.Corners.{half, outer_of}
 use Rattle.regular_maker.specs.declared.symbol.Pair.{Pair}
 
--- the claim of a corner at which no tile lies above this one but its parent: this tile is the
--- lowest there
+-- the claim of a corner of which this tile is the lowest
 unfoldable pub lowest : ℕ → Claim
 lowest q = record { corner = 0; place = half q }
 
@@ -78,7 +78,9 @@ child_pair p q x i = pair_between (pair_claim p q x (i - 1)) (pair_claim p q x i
 unfoldable pub child_pairs : ℕ → ℕ → Pair → ℕ → List Pair
 child_pairs p q x zero = []
 child_pairs p q x (suc i) =
-    if is_child p q x i then (child_pairs p q x i ++ child_pair p q x i ∷ []) else child_pairs p q x i
+    if is_child p q x i
+    then (child_pairs p q x i ++ child_pair p q x i ∷ [])
+    else child_pairs p q x i
 
 -- the pair of the children of the root, all of whose claims are the lowest
 abbrev pub first_pair : ℕ → Pair

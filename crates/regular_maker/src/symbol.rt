@@ -41,7 +41,7 @@ fn pair_between(before: Claim, behind: Claim) -> Pair
 }
 
 impl Symbol {
-    /// Half of `q`, rounded down: the place opposite to place 0.
+    /// Half of `q`, rounded down: the place of the lowest tile of a corner.
     #[tactic(auto, unfolding(crate::specs::Corners::half))]
     pub fn half(self) -> u8
         requires { IsSymbol self.p self.q }
