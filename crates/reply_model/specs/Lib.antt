@@ -1,4 +1,5 @@
 pub mod Histories
-pub mod Replies
 pub mod Readings
+pub mod Replies
 pub mod WalkReadings
+pub mod TreeReadings

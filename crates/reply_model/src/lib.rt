@@ -1,4 +1,5 @@
-//! What walkers are told to do and what they reply: the commands, the replies, and which reply a command has after a history of commands.
+//! What walkers are told to do and what they reply.
+//! The definitions say which reply a command has after a history of commands, over walks and over the tree.
 #![tactic(auto)]
 
 mod bytes;
@@ -9,7 +10,10 @@ pub use bytes::Bytes;
 use cell_names::Name;
 use walk_words::Walk;
 
-/// A command of the stream. Walkers are numbered 0 to 63.
+/// The number of walkers that there can be. Their numbers are those below it.
+pub const WALKERS: u8 = 64;
+
+/// A command of the stream. Walkers are numbered from 0 to below [`WALKERS`].
 #[derive(Debug, Drop)]
 pub enum Command {
     /// A walker of this number appears at the root, facing side 0.

@@ -1,16 +1,26 @@
 -- What it means that a session has answered a command.
-use Rattle.std.specs.Prelude.{◌≡◌, List, [], ◌∷◌, ◌++◌}
+use Rattle.std.specs.Prelude.{◌≡◌, [], ◌∷◌, ◌++◌}
 use Rattle.reply_model.specs.declared.Command.{Command}
 use Rattle.reply_model.specs.declared.Reply.{Reply}
-use Rattle.session_core.specs.Sessions.{SessionState, IsDue, StandsFor}
-use Rattle.session_core.specs.WalkSessions.{IsDueOverWalks, StandsForWalks}
+use Rattle.reply_model.specs.Histories.{History}
+use Rattle.session_core.specs.Sessions.{SessionState, StandsFor, StandsForWalks}
+use Rattle.session_core.specs.Sessions.{IsDueOverWalks, IsDueOverTree}
 
--- The session has answered the command by the reply: it is the one that is due after each history for which the session stood, and now the
--- session stands for that history followed by the command and the reply, over walks and over the tree.
-pub record HasAnswered (old : SessionState) (c : Command) (x : Reply) (new : SessionState) : Type 0 where
-  pub due_over_walks : (history : List (Command × Reply)) → StandsForWalks old history → IsDueOverWalks old history c x
-  pub stands_over_walks : (history : List (Command × Reply)) → StandsForWalks old history → StandsForWalks new (history ++ (c, x) ∷ [])
-  pub due : (history : List (Command × Reply)) → StandsFor old history → IsDue old history c x
-  pub stands : (history : List (Command × Reply)) → StandsFor old history → StandsFor new (history ++ (c, x) ∷ [])
-  pub rules : new.rules ≡ old.rules
-  pub kind : new.kind ≡ old.kind
+-- the history, and behind it the command with its reply
+abbrev pub extended : History → Command → Reply → History
+extended history c x = history ++ (c, x) ∷ []
+
+-- The session has answered the command by the reply.
+-- The reply is the one that is due after each history for which the session stood.
+-- Now the session stands for that history with the command and the reply behind it.
+-- Both are so over walks and over the tree.
+pub record HasAnswered (old : SessionState) (c : Command) (x : Reply) (new : SessionState) : Type 0
+  where
+    pub due_over_walks :
+        (history : History) → StandsForWalks old history → IsDueOverWalks old history c x
+    pub stands_over_walks :
+        (history : History) → StandsForWalks old history → StandsForWalks new (extended history c x)
+    pub due : (history : History) → StandsFor old history → IsDueOverTree old history c x
+    pub stands : (history : History) → StandsFor old history → StandsFor new (extended history c x)
+    pub rules : new.rules ≡ old.rules
+    pub kind : new.kind ≡ old.kind

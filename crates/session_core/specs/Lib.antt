@@ -1,4 +1,2 @@
 pub mod Sessions
-pub mod WalkSessions
 pub mod Answered
-pub mod Laws

@@ -1,17 +1,15 @@
 -- The contour, from where it begins to where it ends.
 use Rattle.std.proofs.Common.{◌≡◌, ℕ, suc, ◌^◌, ◌<◌, ◌≤◌, Bool, true, false, length, refl, sym, ap, ◌∙◌, subst, arith}
-use Rattle.std.proofs.lemmas.Nat.{mul-le}
 use Rattle.structure_check.specs.Rules.{TreeRules, AreSound}
-use Rattle.tree_model.specs.Automata.{rank}
 use Rattle.tree_model.specs.Contours.{Mark, Tree, Opens, mirrored}
 use Rattle.tree_model.specs.Positions.{Position, LiesAcross, in_tree, hop, mark}
-use Rattle.turn_rules.specs.Machine.{room}
-use Rattle.turn_rules.specs.Directions.{turned, mark_towards, inner_corner, bound, Runs, left_over}
-use Rattle.turn_rules.specs.Spots.{TreeSpot, root_kind}
-use Rattle.turn_rules.proofs.Runs.{goes_on, ends, tells, counter_most}
-use Rattle.turn_rules.proofs.Contour.{arrives}
+use Rattle.tree_laws.specs.Machine.{most_moves}
+use Rattle.tree_laws.specs.Directions.{turned, mark_towards, most_open, Runs, left_over}
+use Rattle.spot_laws.specs.Spots.{TreeSpot, root_kind}
+use Rattle.tree_laws.proofs.Runs.{goes_on, ends, tells, counter_most}
+use Rattle.tree_laws.proofs.Contour.{arrives}
 use Rattle.step_engine.specs.declared.detour.Detour.{Detour}
-use Rattle.step_engine.specs.Detours.{IsDetour, ComesTo, HasMoved, HasCrossed, there}
+use Rattle.step_engine.specs.Detours.{IsDetour, HasReached, HasMoved, HasCrossed, there}
 use Rattle.step_engine.proofs.Detours.{at_home, known_home}
 
 mirrored_tree : (m : Mark) → m ≡ Tree → mirrored m ≡ Tree
@@ -23,18 +21,18 @@ pub record Going (r : TreeRules) (s : TreeSpot) (leftwards : Bool) (d0 d : Detou
   pub end : Position
   pub across : LiesAcross r.kinds r.automaton (root_kind r s) (there s d0) end
   pub left : ℕ
-  pub few : left ≤ room (bound r.kinds r.automaton (root_kind r s) leftwards (there s d0))
-  pub runs : Runs r.kinds r.automaton (root_kind r s) leftwards (bound r.kinds r.automaton (root_kind r s) leftwards (there s d0)) left (there s d) c end
+  pub few : left ≤ most_moves (most_open r.kinds r.automaton (root_kind r s) leftwards (there s d0))
+  pub runs : Runs r.kinds r.automaton (root_kind r s) leftwards (most_open r.kinds r.automaton (root_kind r s) leftwards (there s d0)) left (there s d) c end
   pub some : 1 ≤ c
 
 -- the moves that are left
 pub rest : TreeRules → TreeSpot → Bool → Detour → Detour → ℕ → ℕ
-rest r s leftwards d0 d c = left_over r.kinds r.automaton (root_kind r s) leftwards (suc (room (bound r.kinds r.automaton (root_kind r s) leftwards (there s d0)))) (there s d) c
+rest r s leftwards d0 d c = left_over r.kinds r.automaton (root_kind r s) leftwards (suc (most_moves (most_open r.kinds r.automaton (root_kind r s) leftwards (there s d0)))) (there s d) c
 
 rest_is : (r : TreeRules) (s : TreeSpot) (leftwards : Bool) (d0 d : Detour) (c : ℕ) (g : Going r s leftwards d0 d c) → rest r s leftwards d0 d c ≡ g.left
 unfolding rest
 rest_is r s leftwards d0 d c g =
-    tells Position (turned r.kinds r.automaton (root_kind r s) leftwards) (hop r.kinds r.automaton (root_kind r s)) (mark_towards r.kinds r.automaton (root_kind r s) leftwards) g.runs (suc (room (bound r.kinds r.automaton (root_kind r s) leftwards (there s d0)))) (omega (arith, g.few))
+    tells Position (turned r.kinds r.automaton (root_kind r s) leftwards) (hop r.kinds r.automaton (root_kind r s)) (mark_towards r.kinds r.automaton (root_kind r s) leftwards) g.runs (suc (most_moves (most_open r.kinds r.automaton (root_kind r s) leftwards (there s d0)))) (omega (arith, g.few))
 
 module _ (r : TreeRules) (sound : AreSound r) (s : TreeSpot) where
   abbrev Home : ℕ
@@ -45,8 +43,8 @@ module _ (r : TreeRules) (sound : AreSound r) (s : TreeSpot) where
   tree_towards false p e = mirrored_tree (mark r.kinds r.automaton Home p) e
 
   -- a turn to a side of the tree, and across it
-  pub hops : (leftwards : Bool) (d e f : Detour) (c : ℕ) → ComesTo r s (turned r.kinds r.automaton Home leftwards (there s d)) e → mark r.kinds r.automaton Home (there s e) ≡ Tree
-      → ComesTo r s (hop r.kinds r.automaton Home (there s e)) f → HasMoved r s leftwards d c false f c
+  pub hops : (leftwards : Bool) (d e f : Detour) (c : ℕ) → HasReached r s (turned r.kinds r.automaton Home leftwards (there s d)) e → mark r.kinds r.automaton Home (there s e) ≡ Tree
+      → HasReached r s (hop r.kinds r.automaton Home (there s e)) f → HasMoved r s leftwards d c false f c
   hops leftwards d e f c turn tree across =
       let q : Position = turned r.kinds r.automaton Home leftwards (there s d) in
       let t = tree_towards leftwards q (sym (ap (mark r.kinds r.automaton Home) turn.arrives) ∙ tree) in
@@ -78,16 +76,10 @@ module _ (r : TreeRules) (sound : AreSound r) (s : TreeSpot) where
       let e = ends Position (turned r.kinds r.automaton Home leftwards) (hop r.kinds r.automaton Home) (mark_towards r.kinds r.automaton Home leftwards) g.runs (there s d') c' m.goes in
       record { detour = m.detour; across = subst (LiesAcross r.kinds r.automaton Home (there s d0)) (sym e) g.across }
 
-  -- the counter is below its bound
-  pub going_few : (leftwards : Bool) (d0 d : Detour) (c : ℕ) → Going r s leftwards d0 d c → c ≤ bound r.kinds r.automaton Home leftwards (there s d0)
+  -- no more brackets are open than the contour can have
+  pub going_few : (leftwards : Bool) (d0 d : Detour) (c : ℕ) → Going r s leftwards d0 d c → c ≤ most_open r.kinds r.automaton Home leftwards (there s d0)
   going_few leftwards d0 d c g = counter_most Position (turned r.kinds r.automaton Home leftwards) (hop r.kinds r.automaton Home) (mark_towards r.kinds r.automaton Home leftwards) g.runs
 
-  -- which is small
-  pub bound_small : (leftwards : Bool) (p : Position) → rank r.automaton (inner_corner r.kinds r.automaton Home leftwards p) < 2 ^ 32 → length p.name < 2 ^ 65 → bound r.kinds r.automaton Home leftwards p < 2 ^ 127
-  bound_small leftwards p small short =
-      let m = mul-le r.automaton.scale (suc (length p.name)) 65536 (2 ^ 65) sound.accepted.c1.limits.scale.1 short in
-      omega (arith, m, small)
-
   -- across a side of the tree
-  pub tree_crossed : (d d' : Detour) → mark r.kinds r.automaton Home (there s d) ≡ Tree → ComesTo r s (hop r.kinds r.automaton Home (there s d)) d' → HasCrossed r s d d'
+  pub tree_crossed : (d d' : Detour) → mark r.kinds r.automaton Home (there s d) ≡ Tree → HasReached r s (hop r.kinds r.automaton Home (there s d)) d' → HasCrossed r s d d'
   tree_crossed d d' t c = record { detour = c.detour; across = in_tree t (sym c.arrives) }

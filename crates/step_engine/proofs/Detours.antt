@@ -7,21 +7,21 @@ use Rattle.tree_model.specs.Automata.{state_at, root_at, rule_at, side_count, ne
 use Rattle.tree_model.specs.Names.{IsNameBelow, child_of}
 use Rattle.tree_model.specs.Positions.{Position, IsPosition, tree_across, rule_of, hop, parent, last_side}
 use Rattle.tree_model.proofs.Positions.{make_position, left_position, right_position, parent_up}
-use Rattle.turn_rules.specs.Directions.{turned}
-use Rattle.turn_rules.specs.Spots.{TreeSpot, IsSpot, IsAt, position, root_kind, tile_state, faced_rule}
-use Rattle.turn_rules.proofs.Spots.{spot_state, path_length, tile_known, down_is, up_is}
+use Rattle.tree_laws.specs.Directions.{turned}
+use Rattle.spot_laws.specs.Spots.{TreeSpot, IsSpot, IsAt, position, root_kind, tile_state, faced_rule}
+use Rattle.spot_laws.proofs.Spots.{spot_state, path_length, tile_known, down_is, up_is}
 use Rattle.step_engine.specs.declared.detour.Detour.{Detour}
-use Rattle.step_engine.specs.Detours.{IsShaped, IsDetour, IsAbove, ComesTo, spot_there, there}
+use Rattle.step_engine.specs.Detours.{IsShaped, IsDetour, IsAbove, HasReached, spot_there, there}
 
 -- a detour that has not left the spot
-pub starts : (r : TreeRules) (s : TreeSpot) (d : Detour) → IsSpot r s → d.kept ≡ length s.name → d.sides.items ≡ [] → d.states.items ≡ [] → d.tile ≡ tile_state r s → d.spin ≡ s.spin → ComesTo r s (position s) d
-starts r s d h k n p y z =
+pub starts : (r : TreeRules) (s : TreeSpot) (d : Detour) → AreSound r → IsSpot r s → d.kept ≡ length s.name → d.sides.items ≡ [] → d.states.items ≡ [] → d.tile ≡ tile_state r s → d.spin ≡ s.spin → HasReached r s (position s) d
+starts r s d sound h k n p y z =
     let whole = path_length r s h in
     let name : take d.kept s.name ++ d.sides.items ≡ s.name = ap (λ m. take d.kept s.name ++ m) n ∙ append-nil (take d.kept s.name) ∙ take_all d.kept s.name (omega (arith, k)) in
     let path : take (suc d.kept) s.path ++ d.states.items ≡ s.path = ap (λ m. take (suc d.kept) s.path ++ m) p ∙ append-nil (take (suc d.kept) s.path) ∙ take_all (suc d.kept) s.path (omega (arith, k, whole)) in
     let same : spot_there s d ≡ s = λ i. record { name = name i; path = path i; spin = z i } in
     let shape : IsShaped s d = record { path = whole; kept = omega (arith, k); states = ap length p ∙ sym (ap length n) } in
-    record { detour = record { shape = shape; spot = subst (IsSpot r) (sym same) h; tree = ap (root_kind r) same; tile = y ∙ sym (ap (tile_state r) same) }; arrives = ap position same }
+    record { detour = record { sound = sound; shape = shape; spot = subst (IsSpot r) (sym same) h; tree = ap (root_kind r) same; tile = y ∙ sym (ap (tile_state r) same) }; arrives = ap position same }
 
 length_kept : (n : ℕ) (xs : List ℕ) → n ≤ length xs → length (take n xs) ≡ n
 length_kept n xs h = grind (arith, length-take n xs, h)
@@ -112,7 +112,7 @@ module _ (r : TreeRules) (sound : AreSound r) where
   pub turns_to : (s : TreeSpot) (d d' : Detour) (leftwards : Bool) → IsDetour r s d → d'.kept ≡ d.kept → d'.sides.items ≡ d.sides.items → d'.states.items ≡ d.states.items → d'.tile ≡ d.tile
       → (leftwards ≡ true → d'.spin ≡ next (side_count r.kinds r.automaton d.tile) d.spin)
       → (leftwards ≡ false → d'.spin ≡ previous (side_count r.kinds r.automaton d.tile) d.spin)
-      → ComesTo r s (turned r.kinds r.automaton (Home s) leftwards (there s d)) d'
+      → HasReached r s (turned r.kinds r.automaton (Home s) leftwards (there s d)) d'
   turns_to s d d' leftwards h k n p y left right =
       go leftwards (λ e. left e ∙ ap (λ x. next (side_count r.kinds r.automaton x) d.spin) h.tile) (λ e. right e ∙ ap (λ x. previous (side_count r.kinds r.automaton x) d.spin) h.tile)
     where
@@ -125,29 +125,29 @@ module _ (r : TreeRules) (sound : AreSound r) where
       path : (spot_there s d').path ≡ (spot_there s d).path
       path = ap₂ (λ i m. take (suc i) s.path ++ m) k p
 
-      to : (i : ℕ) → d'.spin ≡ i → IsPosition r.kinds r.automaton (root_kind r (spot_there s d)) (make_position (there s d).name i) → ComesTo r s (make_position (there s d).name i) d'
+      to : (i : ℕ) → d'.spin ≡ i → IsPosition r.kinds r.automaton (root_kind r (spot_there s d)) (make_position (there s d).name i) → HasReached r s (make_position (there s d).name i) d'
       to i e there =
           let t : TreeSpot = record { name = (spot_there s d).name; path = (spot_there s d).path; spin = i } in
           let same : spot_there s d' ≡ t = λ j. record { name = name j; path = path j; spin = e j } in
           let spot : IsSpot r t = record { known = h.spot.known; there = there; along = h.spot.along } in
-          record { detour = record { shape = shape; spot = subst (IsSpot r) (sym same) spot; tree = ap (root_kind r) same ∙ h.tree; tile = y ∙ h.tile ∙ sym (ap (tile_state r) same) }; arrives = ap position same }
+          record { detour = record { sound = sound; shape = shape; spot = subst (IsSpot r) (sym same) spot; tree = ap (root_kind r) same ∙ h.tree; tile = y ∙ h.tile ∙ sym (ap (tile_state r) same) }; arrives = ap position same }
 
       go : (b : Bool) → (b ≡ true → d'.spin ≡ next (side_count r.kinds r.automaton (tile_state r (spot_there s d))) d.spin)
           → (b ≡ false → d'.spin ≡ previous (side_count r.kinds r.automaton (tile_state r (spot_there s d))) d.spin)
-          → ComesTo r s (turned r.kinds r.automaton (Home s) b (there s d)) d'
+          → HasReached r s (turned r.kinds r.automaton (Home s) b (there s d)) d'
       go true f g =
-          subst (λ k. ComesTo r s (turned r.kinds r.automaton k true (there s d)) d') h.tree (to (next (side_count r.kinds r.automaton (tile_state r (spot_there s d))) d.spin) (f refl) (left_position r.kinds r.automaton (root_kind r (spot_there s d)) (there s d) h.spot.there))
+          subst (λ k. HasReached r s (turned r.kinds r.automaton k true (there s d)) d') h.tree (to (next (side_count r.kinds r.automaton (tile_state r (spot_there s d))) d.spin) (f refl) (left_position r.kinds r.automaton (root_kind r (spot_there s d)) (there s d) h.spot.there))
       go false f g =
-          subst (λ k. ComesTo r s (turned r.kinds r.automaton k false (there s d)) d') h.tree (to (previous (side_count r.kinds r.automaton (tile_state r (spot_there s d))) d.spin) (g refl) (right_position r.kinds r.automaton (root_kind r (spot_there s d)) (there s d) h.spot.there))
+          subst (λ k. HasReached r s (turned r.kinds r.automaton k false (there s d)) d') h.tree (to (previous (side_count r.kinds r.automaton (tile_state r (spot_there s d))) d.spin) (g refl) (right_position r.kinds r.automaton (root_kind r (spot_there s d)) (there s d) h.spot.there))
 
   -- to a spot in the tree of the spot there
-  comes : (s : TreeSpot) (d d' : Detour) (p : Position) → IsDetour r s d → IsShaped s d' → IsAt r (root_kind r (spot_there s d)) p (spot_there s d') → d'.tile ≡ tile_state r (spot_there s d') → ComesTo r s p d'
-  comes s d d' p h shape at tile = record { detour = record { shape = shape; spot = at.spot; tree = at.tree ∙ h.tree; tile = tile }; arrives = at.stands }
+  comes : (s : TreeSpot) (d d' : Detour) (p : Position) → IsDetour r s d → IsShaped s d' → IsAt r (root_kind r (spot_there s d)) p (spot_there s d') → d'.tile ≡ tile_state r (spot_there s d') → HasReached r s p d'
+  comes s d d' p h shape at tile = record { detour = record { sound = sound; shape = shape; spot = at.spot; tree = at.tree ∙ h.tree; tile = tile }; arrives = at.stands }
 
   -- to the child
   pub goes_down : (s : TreeSpot) (d d' : Detour) (c : ℕ) → IsDetour r s d → faced_rule r (spot_there s d) ≡ Child c
       → d'.kept ≡ d.kept → d'.sides.items ≡ d.sides.items ++ d.spin ∷ [] → d'.states.items ≡ d.states.items ++ c ∷ [] → d'.tile ≡ c → d'.spin ≡ 0
-      → ComesTo r s (hop r.kinds r.automaton (Home s) (there s d)) d'
+      → HasReached r s (hop r.kinds r.automaton (Home s) (there s d)) d'
   goes_down s d d' c h e k n p y z =
       let shape : IsShaped s d' = record { path = h.shape.path; kept = omega (arith, k, h.shape.kept); states = omega (arith, ap length p, ap length n, length_push d.states.items c, length_push d.sides.items d.spin, h.shape.states) } in
       let name : (spot_there s d').name ≡ (spot_there s d).name ++ d.spin ∷ [] = ap₂ (λ i m. take i s.name ++ m) k n ∙ sym (append_assoc (take d.kept s.name) d.sides.items (d.spin ∷ [])) in
@@ -157,15 +157,15 @@ module _ (r : TreeRules) (sound : AreSound r) where
       let tile : d'.tile ≡ tile_state r (spot_there s d') =
       y ∙ sym (ap (λ xs. slice_index_or xs (length (spot_there s d').name) c) path ∙ get_or_push (spot_there s d).path c c (length (spot_there s d').name) last) ∙ spot_state r (spot_there s d') c at.spot in
       let across = ap (λ x. tree_across x (there s d)) (sym (rule_home s d h) ∙ e) in
-      subst (λ q. ComesTo r s q d') (sym across) (comes s d d' (make_position ((spot_there s d).name ++ d.spin ∷ []) 0) h shape at tile)
+      subst (λ q. HasReached r s q d') (sym across) (comes s d d' (make_position ((spot_there s d).name ++ d.spin ∷ []) 0) h shape at tile)
 
   -- to the parent
   pub goes_up : (s : TreeSpot) (d d' : Detour) → IsDetour r s d → faced_rule r (spot_there s d) ≡ Parent → IsShaped s d' → IsAbove (spot_there s d') (spot_there s d)
-      → (IsSpot r (spot_there s d') → d'.tile ≡ tile_state r (spot_there s d')) → ComesTo r s (hop r.kinds r.automaton (Home s) (there s d)) d'
+      → (IsSpot r (spot_there s d') → d'.tile ≡ tile_state r (spot_there s d')) → HasReached r s (hop r.kinds r.automaton (Home s) (there s d)) d'
   goes_up s d d' h e shape above tile =
-      let at = up_is r sound (spot_there s d) (spot_there s d') above.last h.spot above.name above.path in
+      let at = up_is r (spot_there s d) (spot_there s d') above.last h.spot above.name above.path in
       let across = ap (λ x. tree_across x (there s d)) (sym (rule_home s d h) ∙ e) in
-      subst (λ q. ComesTo r s q d') (sym across) (comes s d d' (make_position (parent (there s d).name) (last_side (there s d).name)) h shape at (tile at.spot))
+      subst (λ q. HasReached r s q d') (sym across) (comes s d d' (make_position (parent (there s d).name) (last_side (there s d).name)) h shape at (tile at.spot))
 
   -- a Parent side is that of no root
   pub has_parent : (s : TreeSpot) (d : Detour) → IsDetour r s d → faced_rule r (spot_there s d) ≡ Parent → (there s d).name ≢ []

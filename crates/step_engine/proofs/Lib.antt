@@ -1,3 +1,4 @@
 pub mod Detours
 pub mod Contours
 pub mod Walks
+pub mod Far

@@ -1,6 +1,6 @@
 -- Walks of a detour, letter by letter.
 use Rattle.std.specs.Prelude.{Result, Ok, Err, IsErrAnd, IsErrOf}
-use Rattle.std.proofs.Common.{◌≡◌, ℕ, ◌+◌, ◌<◌, ◌≤◌, List, [], ◌∷◌, ◌++◌, length, take, drop, slice_index_or, refl, sym, ap, ◌∙◌, subst, arith, append_assoc, take-append-drop}
+use Rattle.std.proofs.Common.{◌≡◌, ℕ, ◌+◌, ◌<◌, ◌≤◌, List, [], ◌∷◌, ◌++◌, length, take, drop, slice_index_or, refl, sym, ap, ◌∙◌, subst, arith, append_assoc, take-append-drop, take_all}
 use Rattle.std.proofs.lemmas.List.{take_more, drop_more, same_from_push}
 use Rattle.tile_model.specs.declared.Letter.{Letter}
 use Rattle.tile_model.specs.declared.Letter.TheVariants.{X}
@@ -8,13 +8,13 @@ use Rattle.structure_check.specs.Rules.{TreeRules, AreSound}
 use Rattle.tree_model.specs.Positions.{Position, LiesAcross, Leads, Moves, root}
 use Rattle.tree_model.specs.Places.{IsPlace}
 use Rattle.tree_model.proofs.Names.{LastView, empty, last, last_view}
-use Rattle.turn_rules.specs.Spots.{TreeSpot, IsSpot, position, root_kind}
-use Rattle.turn_rules.proofs.Closure.{across_same}
-use Rattle.turn_rules.proofs.Walking.{leads_append, leads_split, leads_same}
-use Rattle.turn_rules.proofs.Places.{place_leads, leads_place}
+use Rattle.spot_laws.specs.Spots.{TreeSpot, IsSpot, position, root_kind}
+use Rattle.tree_laws.proofs.Closure.{across_same}
+use Rattle.tree_laws.proofs.Walking.{leads_append, leads_split, leads_same}
+use Rattle.tree_laws.proofs.Places.{place_leads, leads_place}
 use Rattle.step_engine.specs.declared.detour.Detour.{Detour}
-use Rattle.step_engine.specs.Crossings.{IsAcross, LeadsTo, StandsAfter, IsDeepAcross, CrossesDeep, WalksDeep}
-use Rattle.step_engine.specs.Detours.{IsDetour, ComesTo, HasCrossed, HasStepped, spot_there, there}
+use Rattle.step_engine.specs.Crossings.{IsAcross, WalkLeadsTo, StandsAfter, IsDeepAcross, CrossesDeep, WalksDeep}
+use Rattle.step_engine.specs.Detours.{IsDetour, HasReached, HasCrossed, HasStepped, FacesDeep, spot_there, there}
 
 -- a fault that is handed on is the same
 pub same_fault : {T E : Type 0} (r : Result T E) (e x : E) → IsErrAnd r (λ y. y ≡ e) → IsErrOf r x → e ≡ x
@@ -24,10 +24,10 @@ same_fault (Err y) e x is of = let f : y ≡ x = cc in sym is ∙ f
 -- The detour is where the walk leads from the spot, and no crossing on the way arrived at a name of more than `most` sides.
 pub record HasWalked (r : TreeRules) (s : TreeSpot) (w : List Letter) (most : ℕ) (d : Detour) : Type 0 where
   pub detour : IsDetour r s d
-  pub leads : LeadsTo r s w (there s d)
-  pub near : (before behind : List Letter) (q : Position) → w ≡ before ++ X ∷ behind → LeadsTo r s (before ++ X ∷ []) q → length q.name ≤ most
+  pub leads : WalkLeadsTo r s w (there s d)
+  pub near : (before behind : List Letter) (q : Position) → w ≡ before ++ X ∷ behind → WalkLeadsTo r s (before ++ X ∷ []) q → length q.name ≤ most
 
-pub walked_none : (r : TreeRules) (s : TreeSpot) (most : ℕ) (d : Detour) → ComesTo r s (position s) d → HasWalked r s [] most d
+pub walked_none : (r : TreeRules) (s : TreeSpot) (most : ℕ) (d : Detour) → HasReached r s (position s) d → HasWalked r s [] most d
 walked_none r s most d h = record { detour = h.detour; leads = sym h.arrives; near = λ before behind q e g. absurd (nothing before behind e) }
   where
     nothing : (before behind : List Letter) → [] ≡ before ++ X ∷ behind → ⊥
@@ -46,7 +46,7 @@ module _ (r : TreeRules) (sound : AreSound r) (s : TreeSpot) (spot : IsSpot r s)
     near = λ before behind q e g. near before behind (last_view behind) q e g;
   }
     where
-      near : (before behind : List Letter) → LastView behind → (q : Position) → w ++ x ∷ [] ≡ before ++ X ∷ behind → LeadsTo r s (before ++ X ∷ []) q → length q.name ≤ most
+      near : (before behind : List Letter) → LastView behind → (q : Position) → w ++ x ∷ [] ≡ before ++ X ∷ behind → WalkLeadsTo r s (before ++ X ∷ []) q → length q.name ≤ most
       near before _ empty q e g =
           let same = same_from_push w before x X e in
           let f = leads_split r.kinds r.automaton (root_kind r s) before (X ∷ []) (position s) q g in
@@ -80,7 +80,7 @@ module _ (r : TreeRules) (sound : AreSound r) (s : TreeSpot) (spot : IsSpot r s)
       walked_deep (take i w) (drop (i + 1) w) w most d split h f
 
   -- the only position to which a walk leads
-  pub walked_only : (w : List Letter) (most : ℕ) (d : Detour) (t : TreeSpot) → HasWalked r s w most d → t ≡ spot_there s d → (q : Position) → LeadsTo r s w q → position t ≡ q
+  pub walked_only : (w : List Letter) (most : ℕ) (d : Detour) (t : TreeSpot) → HasWalked r s w most d → t ≡ spot_there s d → (q : Position) → WalkLeadsTo r s w q → position t ≡ q
   walked_only w most d t h e q g = ap position e ∙ leads_same r.kinds r.automaton (root_kind r s) sound.valid sound.accepted spot.known w (position s) (there s d) q h.leads g
 
   -- the place of a walk before, followed by this one
@@ -93,12 +93,12 @@ module _ (r : TreeRules) (sound : AreSound r) (s : TreeSpot) (spot : IsSpot r s)
       subst (λ x. StandsAfter r x (u ++ w)) (sym e) home
 
   -- the only position across
-  pub crossed_only : (d0 d : Detour) (t : TreeSpot) → ComesTo r s (position s) d0 → HasCrossed r s d0 d → t ≡ spot_there s d → (q : Position) → IsAcross r s q → position t ≡ q
+  pub crossed_only : (d0 d : Detour) (t : TreeSpot) → HasReached r s (position s) d0 → HasCrossed r s d0 d → t ≡ spot_there s d → (q : Position) → IsAcross r s q → position t ≡ q
   crossed_only d0 d t b h e q g =
       let a : IsAcross r s (there s d) = subst (λ p. LiesAcross r.kinds r.automaton (root_kind r s) p (there s d)) b.arrives h.across in
       ap position e ∙ across_same r.kinds r.automaton (root_kind r s) sound.valid sound.accepted spot.known (position s) (there s d) q a g
 
-  pub crossed_near : (most : ℕ) (d0 d : Detour) → ComesTo r s (position s) d0 → HasCrossed r s d0 d → length (there s d).name ≤ most → CrossesDeep r s most → ⊥
+  pub crossed_near : (most : ℕ) (d0 d : Detour) → HasReached r s (position s) d0 → HasCrossed r s d0 d → length (there s d).name ≤ most → CrossesDeep r s most → ⊥
   crossed_near most d0 d b h n f =
       let e = crossed_only d0 d (spot_there s d) b h refl f.there f.across in
       omega (arith, n, f.deep, ap (λ (p : Position). length p.name) e)
@@ -106,3 +106,25 @@ module _ (r : TreeRules) (sound : AreSound r) (s : TreeSpot) (spot : IsSpot r s)
   -- a walk that was gone comes too deep nowhere
   pub walked_near : (w : List Letter) (most : ℕ) (d : Detour) → HasWalked r s w most d → WalksDeep r s w most → ⊥
   walked_near w most d h f = absurd (omega (arith, h.near f.before f.behind f.there f.split f.leads, f.deep))
+
+-- A detour is on a walk, by a crossing whose rules are those that it had when the walk began.
+pub record Walking (r now : TreeRules) (s : TreeSpot) (w : List Letter) (most : ℕ) (d : Detour) : Type 0 where
+  pub same : now ≡ r
+  pub walked : HasWalked r s w most d
+
+module _ (r : TreeRules) (s : TreeSpot) (spot : IsSpot r s) (most : ℕ) where
+  pub walking_starts : (told : TreeRules) (d : Detour) → told ≡ r → HasReached told s (position s) d → Walking r r s [] most d
+  walking_starts told d e h = record { same = refl; walked = walked_none r s most d (subst (λ q. HasReached q s (position s) d) e h) }
+
+  pub walking_on : (before after : TreeRules) (w : List Letter) (i : ℕ) (x : Letter) (d d' : Detour) → i < length w → Walking r before s (take i w) most d → after ≡ before → HasStepped before s d (slice_index_or w i x) most d' → Walking r after s (take (i + 1) w) most d'
+  walking_on before after w i x d d' l h e t = record {
+    same = e ∙ h.same;
+    walked = walked_next r h.walked.detour.sound s spot w i x most d d' l h.walked (subst (λ q. HasStepped q s d (slice_index_or w i x) most d') h.same t);
+  }
+
+  pub walking_deep : (before : TreeRules) (w : List Letter) (i : ℕ) (x : Letter) (d : Detour) → i < length w → Walking r before s (take i w) most d → slice_index_or w i x ≡ X → FacesDeep before s d most → WalksDeep r s w most
+  walking_deep before w i x d l h e f = deep_next r h.walked.detour.sound s spot w i x most d l h.walked e (subst (λ q. FacesDeep q s d most) h.same f)
+
+  -- the whole walk is gone
+  pub walking_whole : (now : TreeRules) (w items : List Letter) (i : ℕ) (d : Detour) → length items ≤ i → items ≡ w → Walking r now s (take i items) most d → HasWalked r s w most d
+  walking_whole now w items i d end e h = subst (λ u. HasWalked r s u most d) (take_all i items end ∙ e) h.walked

@@ -1,28 +1,29 @@
 //! The way along the contour of the tree from a spot, which itself stays where it is until the way is accepted.
-ghost use Rattle.std.specs.Prelude.{◌≡◌, ◌≢◌, ◌↔◌, ◌<◌, ◌≤◌, ◌+◌, ◌^◌, Bool, true, false, nat_eq, List, [], ◌∷◌, ◌++◌, length, IfOk, OnOk, OnErr, IsErrOf, IsTrue};
+ghost use Rattle.std.specs.Prelude.{◌≡◌, ◌≢◌, ◌↔◌, ◌<◌, ◌≤◌, ◌+◌, ◌^◌, true, false, nat_eq};
+ghost use Rattle.std.specs.Prelude.{[], ◌∷◌, ◌++◌, length, IfOk, OnOk, OnErr, IsErrOf, IsTrue, All};
 ghost use Rattle.structure_check.specs.Rules.{TreeRules};
-ghost use Rattle.tree_model.specs.Automata.{next, previous, rank, side_count};
-ghost use Rattle.tree_model.specs.Contours.{Opens};
-ghost use Rattle.turn_rules.specs.Spots.{IsSpot, root_kind, tile_state, faced_rule, position};
-ghost use Rattle.turn_rules.specs.Directions.{turned, mark_towards, inner_corner, bound};
-ghost use Rattle.step_engine.specs.Detours.{IsShaped, IsDetour, IsAbove, ComesTo, HasMoved, HasCrossed, HasStepped, spot_there, there};
-ghost use Rattle.step_engine.specs.Crossings.{IsDeepAcross};
+ghost use Rattle.tree_model.specs.Automata.{next, previous, side_count};
+ghost use Rattle.spot_laws.specs.Spots.{IsSpot, tile_state, faced_rule, position};
+ghost use Rattle.step_engine.specs.Detours.{spot_there, there, turned_there, most_open_there};
+ghost use Rattle.step_engine.specs.Detours.{IsShaped, IsDetour, IsAbove, HasReached, HasMoved};
+ghost use Rattle.step_engine.specs.Detours.{HasCrossed, OpensTowards, FacesDeep};
 
 use crate::fault::{DEEPEST, StepFault};
+use crate::tile::tile;
 use smallvec::SmallVec;
 use std::alloc::AllocError;
 use structure_check::Rules;
 use tree_model::Rule;
-use turn_rules::{Spot, corner_rank, next_left, next_right, rule};
-use walk_words::Letter;
+use turn_rules::{Spot, brackets_fit, next_left, next_right, rule};
 
 /// How many sides below the spot's own name a detour keeps without an allocation.
 const INLINE: usize = 32;
 
-/// A place in the tree, by how its name leaves that of a spot: the first `kept` sides of the spot's name, and then other sides, with the
-/// states that they lead to. The state of its tile, the last one on the path, stands apart, since each move asks for it.
-#[derive(Drop)]
-pub(crate) struct Detour {
+/// A place in the tree, by how its name leaves that of a spot: the first `kept` sides of the spot's name, and then
+/// other sides, with the states that they lead to.
+/// The state of its tile, the last one on the path, stands apart, since each move asks for it.
+#[derive(Debug, Drop)]
+pub struct Detour {
     pub(crate) kept: usize,
     pub(crate) sides: SmallVec<u8, INLINE>,
     pub(crate) states: SmallVec<u32, INLINE>,
@@ -31,15 +32,37 @@ pub(crate) struct Detour {
 }
 
 impl Detour {
+    /// How many sides of the spot's name the name of the place begins with.
+    pub fn kept(&self) -> usize
+        ensures { result ≡ self.now.kept }
+    {
+        self.kept
+    }
+
+    /// The sides that follow those in the name of the place.
+    pub fn sides(&self) -> &[u8]
+        ensures { result.now ≡ self.now.sides.items }
+    {
+        self.sides.as_slice()
+    }
+
+    /// The side that is faced.
+    pub fn spin(&self) -> u8
+        ensures { result ≡ self.now.spin }
+    {
+        self.spin
+    }
+
     /// The detour that has not left the spot.
-    pub(crate) fn start(s: &Spot) -> Detour
-        ensures { (rules : TreeRules) → IsSpot rules s.now → ComesTo rules s.now (position s.now) result }
+    pub(crate) fn start(s: &Spot, r: &Rules) -> Detour
+        requires { IsSpot r.now s.now }
+        ensures { HasReached r.now s.now (position s.now) result }
     {
         Detour {
             kept: s.level(),
             sides: s.empty_list(),
             states: s.empty_list(),
-            tile: s.state(),
+            tile: tile(s, r),
             spin: s.spin(),
         }
     }
@@ -55,7 +78,8 @@ impl Detour {
     /// The last state on the path.
     fn last_state(&self, s: &Spot) -> u32
         requires { IsShaped s.now self.now }
-        ensures { (rules : TreeRules) → IsSpot rules (spot_there s.now self.now) → result ≡ tile_state rules (spot_there s.now self.now) }
+        ensures { (rules : TreeRules) → IsSpot rules (spot_there s.now self.now)
+            → result ≡ tile_state rules (spot_there s.now self.now) }
     {
         match self.states.as_slice().last() {
             Some(state) => *state,
@@ -67,22 +91,22 @@ impl Detour {
         requires { IsDetour r.now s.now self.now }
         ensures { result ≡ faced_rule r.now (spot_there s.now self.now) }
     {
-        let _ = r.automaton();
         rule(r, self.tile, self.spin)
     }
 
-    fn turn(&mut self, s: &Spot, r: &Rules, leftwards: bool)
+    /// Faces the side to the left, or else to the right.
+    pub(crate) fn turn(&mut self, s: &Spot, r: &Rules, leftwards: bool)
         requires { IsDetour r.now s.now self.old }
-        ensures { ComesTo r.now s.now (turned r.now.kinds r.now.automaton (root_kind r.now s.now) leftwards (there s.now self.old)) self.new }
+        ensures { HasReached r.now s.now (turned_there r.now s.now leftwards self.old) self.new }
     {
-        let _ = r.automaton();
         self.spin = beside(r, self.tile, self.spin, leftwards);
     }
 
     #[inline]
     fn down(&mut self, child: u32) -> Result<(), AllocError>
         ensures kept { OnOk result (self.new.kept ≡ self.old.kept) }
-        ensures sides { OnOk result (self.new.sides.items ≡ self.old.sides.items ++ self.old.spin ∷ []) }
+        ensures sides { OnOk result
+            (self.new.sides.items ≡ self.old.sides.items ++ self.old.spin ∷ []) }
         ensures states { OnOk result (self.new.states.items ≡ self.old.states.items ++ child ∷ []) }
         ensures tile { OnOk result (self.new.tile ≡ child) }
         ensures spin { OnOk result (self.new.spin ≡ 0) }
@@ -99,7 +123,8 @@ impl Detour {
         requires no_root { (there s.now self.old).name ≢ [] }
         ensures shape { IsShaped s.now self.new }
         ensures above { IsAbove (spot_there s.now self.new) (spot_there s.now self.old) }
-        ensures tile { (rules : TreeRules) → IsSpot rules (spot_there s.now self.new) → self.new.tile ≡ tile_state rules (spot_there s.now self.new) }
+        ensures tile { (rules : TreeRules) → IsSpot rules (spot_there s.now self.new)
+            → self.new.tile ≡ tile_state rules (spot_there s.now self.new) }
     {
         self.shorten(s);
         self.tile = self.last_state(s);
@@ -121,32 +146,20 @@ impl Detour {
         self.spin = s.name().sides()[self.kept];
     }
 
-    /// The rank of the corner at the inner end of the faced side. It bounds how many brackets can be open on the way from there.
-    fn inner_rank(&self, s: &Spot, r: &Rules, leftwards: bool) -> u32
-        requires { IsDetour r.now s.now self.now }
-        ensures { result ≡ rank r.now.automaton (inner_corner r.now.kinds r.now.automaton (root_kind r.now s.now) leftwards (there s.now self.now)) }
-    {
-        let _ = r.automaton();
-        if leftwards {
-            corner_rank(r, self.tile, self.spin)
-        } else {
-            corner_rank(r, self.tile, next_right(r, self.tile, self.spin))
-        }
-    }
-
-    /// On the way from here, in this direction, the counter of open brackets stays below the bound of the weight, which is small.
+    /// Fewer than 2^127 brackets are ever open on the way from here, leftwards or rightwards.
+    /// The call does nothing but read what tells this: the side for the rules, and two lengths of which the name of the
+    /// place is made.
     fn counter_fits(&self, s: &Spot, r: &Rules, leftwards: bool)
         requires { IsDetour r.now s.now self.now }
-        ensures { bound r.now.kinds r.now.automaton (root_kind r.now s.now) leftwards (there s.now self.now) < 2 ^ 127 }
+        ensures { most_open_there r.now s.now leftwards self.now < 2 ^ 127 }
     {
-        let _ = r.automaton();
-        let _rank = self.inner_rank(s, r, leftwards);
+        brackets_fit(r, self.tile, self.spin, leftwards);
         let _level = s.level();
         let _entered = self.sides.len();
     }
 
-    /// One move along the contour: a turn, and then across a side of the tree, or past a bracket, which is counted. It answers whether no
-    /// bracket is left open.
+    /// One move along the contour: a turn, and then across a side of the tree, or past a bracket, which is counted.
+    /// It answers whether no bracket is left open.
     fn go_on(
         &mut self,
         s: &Spot,
@@ -157,9 +170,9 @@ impl Detour {
         requires detour { IsDetour r.now s.now self.old }
         requires some { 1 ≤ brackets.old }
         requires few { brackets.old < 2 ^ 127 }
-        ensures { IfOk result (λ done. HasMoved r.now s.now leftwards self.old brackets.old done self.new brackets.new) }
+        ensures { IfOk result (λ done.
+            HasMoved r.now s.now leftwards self.old brackets.old done self.new brackets.new) }
     {
-        let _ = r.automaton();
         self.turn(s, r, leftwards);
         match self.rule(s, r) {
             Rule::Parent => {
@@ -178,10 +191,9 @@ impl Detour {
     /// Along the contour, from a bracket that opens in this direction to the one that closes it.
     fn contour(&mut self, s: &Spot, r: &Rules, leftwards: bool) -> Result<(), AllocError>
         requires detour { IsDetour r.now s.now self.old }
-        requires opens { mark_towards r.now.kinds r.now.automaton (root_kind r.now s.now) leftwards (there s.now self.old) ≡ Opens }
+        requires opens { OpensTowards r.now s.now leftwards self.old }
         ensures { OnOk result (HasCrossed r.now s.now self.old self.new) }
     {
-        let _ = r.automaton();
         self.counter_fits(s, r, leftwards);
         let mut brackets: u128 = 1;
         while !self.go_on(s, r, leftwards, &mut brackets)? {}
@@ -193,7 +205,6 @@ impl Detour {
         requires { IsDetour r.now s.now self.old }
         ensures { OnOk result (HasCrossed r.now s.now self.old self.new) }
     {
-        let _ = r.automaton();
         match self.rule(s, r) {
             Rule::Parent => {
                 self.up(s);
@@ -213,7 +224,7 @@ impl Detour {
         requires { IsDetour r.now s.now self.old }
         ensures crossed { OnOk result (HasCrossed r.now s.now self.old self.new) }
         ensures near { OnOk result (length (there s.now self.new).name ≤ DEEPEST) }
-        ensures deep { IsErrOf result StepFault.Deep → IsDeepAcross r.now (root_kind r.now s.now) (there s.now self.old) DEEPEST }
+        ensures deep { IsErrOf result StepFault.Deep → FacesDeep r.now s.now self.old DEEPEST }
     {
         self.arrive(s, r)?;
         if self.is_deep(s) {
@@ -222,33 +233,13 @@ impl Detour {
         Ok(())
     }
 
-    /// On by one letter.
-    pub(crate) fn step(&mut self, s: &Spot, r: &Rules, x: Letter) -> Result<(), StepFault>
-        requires { IsDetour r.now s.now self.old }
-        ensures stepped { OnOk result (HasStepped r.now s.now self.old x DEEPEST self.new) }
-        ensures only_crossings { IsErrOf result StepFault.Deep → x ≡ Letter.X }
-        ensures deep { IsErrOf result StepFault.Deep → IsDeepAcross r.now (root_kind r.now s.now) (there s.now self.old) DEEPEST }
-    {
-        match x {
-            Letter::L => {
-                self.turn(s, r, true);
-                Ok(())
-            }
-            Letter::R => {
-                self.turn(s, r, false);
-                Ok(())
-            }
-            Letter::X => self.cross(s, r),
-        }
-    }
-
     /// Moves the spot to where the detour has come.
-    pub(crate) fn finish(&self, s: &mut Spot, r: &Rules) -> Result<(), AllocError>
-        requires { IsDetour r.now s.old self.now }
+    pub(crate) fn finish(&self, s: &mut Spot) -> Result<(), AllocError>
+        requires shape { IsShaped s.old self.now }
+        requires below { All (λ side. side < 64) self.now.sides.items }
         ensures there { OnOk result (s.new ≡ spot_there s.old self.now) }
         ensures unchanged { OnErr result (s.new ≡ s.old) }
     {
-        let _ = r.automaton();
         s.rejoin(
             self.kept,
             self.sides.as_slice(),
@@ -262,8 +253,10 @@ impl Detour {
 fn beside(r: &Rules, state: u32, side: u8, leftwards: bool) -> u8
     requires state { state < length r.now.automaton.states }
     requires side { side < side_count r.now.kinds r.now.automaton state }
-    ensures left { leftwards ≡ true → result ≡ next (side_count r.now.kinds r.now.automaton state) side }
-    ensures right { leftwards ≡ false → result ≡ previous (side_count r.now.kinds r.now.automaton state) side }
+    ensures left { leftwards ≡ true
+        → result ≡ next (side_count r.now.kinds r.now.automaton state) side }
+    ensures right { leftwards ≡ false
+        → result ≡ previous (side_count r.now.kinds r.now.automaton state) side }
 {
     if leftwards {
         next_left(r, state, side)
@@ -277,7 +270,8 @@ fn is_last(opens: bool, brackets: &mut u128) -> bool
     requires some { 1 ≤ brackets.old }
     requires few { brackets.old < 2 ^ 127 }
     ensures opened { opens ≡ true → (result ≡ false) × (brackets.new ≡ brackets.old + 1) }
-    ensures closed { opens ≡ false → (result ≡ nat_eq brackets.new 0) × (brackets.new + 1 ≡ brackets.old) }
+    ensures closed { opens ≡ false
+        → (result ≡ nat_eq brackets.new 0) × (brackets.new + 1 ≡ brackets.old) }
 {
     if opens {
         *brackets += 1;

@@ -1,15 +1,17 @@
 // Walks that are known from outside, in a tree of pentagons. The rules are built in `builders`.
 mod builders;
+mod logged;
 mod slow;
 mod spots;
 
-use crate::laws::one_place;
+use crate::laws::{deep_is_far, one_place};
 use crate::{StepFault, cross, spot_walk, turn_left, turn_right, walk};
 use builders::{pentagons, start};
 use std::alloc::Global;
 use std::test::Fail;
 use structure_check::Rules;
-use turn_rules::laws::{across_back, contours, levels, matching, places, round_corner, weights};
+use tree_laws::laws::{contours, levels, matching, places, rings, shortest, weights};
+use turn_rules::laws::{across_back, round_corner};
 use walk_words::{Walk, print_walk, read_walk};
 
 // Whether the walk leads from there to this side of this tile.
@@ -78,6 +80,7 @@ fn calls_the_laws(rt: HostRuntime) -> Result<(), Fail> {
     };
     assert_eq!(rt; r.tessellation().kinds(), 1);
     one_place(&r, 0);
+    deep_is_far();
     across_back(&r, 0);
     round_corner(&r, 0);
     matching();
@@ -85,5 +88,7 @@ fn calls_the_laws(rt: HostRuntime) -> Result<(), Fail> {
     weights();
     places();
     levels();
+    shortest();
+    rings();
     Ok(())
 }

@@ -1,10 +1,10 @@
-//! Spots in the tree of accepted rules and their steps to a child and to the parent, what lies across a side, and the walk along the
-//! contour that finds it.
+//! Spots in the tree of accepted rules and their steps to a child and to the parent, the sides of a tile, and laws of
+//! accepted rules.
 #![tactic(auto)]
 
 pub mod laws;
 mod sides;
 mod spot;
 
-pub use sides::{corner_rank, next_left, next_right, rule, side_count};
+pub use sides::{brackets_fit, next_left, next_right, rule};
 pub use spot::Spot;

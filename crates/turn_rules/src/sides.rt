@@ -1,13 +1,14 @@
 //! The sides of a tile in a state: how many there are, which one comes next, and what each is in the tree.
-ghost use Rattle.std.specs.Prelude.{◌≡◌, ◌<◌, ◌≤◌, length};
-ghost use Rattle.tree_model.specs.Automata.{claim_at, next, previous, rank, rule_at, side_count as count};
+ghost use Rattle.std.specs.Prelude.{◌≡◌, ◌<◌, ◌≤◌, true, false, length};
+ghost use Rattle.tree_model.specs.Automata.{next, previous, rule_at, side_count as count};
+ghost use Rattle.spot_laws.specs.Spots.{BracketsAreFew};
 
 use structure_check::Rules;
 use tree_model::Rule;
 
 /// The number of sides of a tile in a state of the rules.
 #[tactic(auto, unfolding(tree_model::specs::Automata::side_count))]
-pub fn side_count(r: &Rules, state: u32) -> u8
+fn side_count(r: &Rules, state: u32) -> u8
     requires { state < length r.now.automaton.states }
     ensures value { result ≡ count r.now.kinds r.now.automaton state }
     ensures at_least { 3 ≤ result }
@@ -49,12 +50,32 @@ pub fn next_right(r: &Rules, state: u32, side: u8) -> u8
     }
 }
 
-/// The rank of the corner at the left end of a side of a tile in a state of the rules.
-pub fn corner_rank(r: &Rules, state: u32, side: u8) -> u32
+/// A counter of open brackets below 2^127 is enough for the walk along the contour, leftwards or rightwards, from a
+/// side of a tile in a state of the rules.
+/// The call does nothing but read the tables, which tell this.
+pub fn brackets_fit(r: &Rules, state: u32, side: u8, leftwards: bool)
     requires state { state < length r.now.automaton.states }
     requires side { side < count r.now.kinds r.now.automaton state }
-    ensures { result ≡ rank r.now.automaton (claim_at r.now.automaton state side).corner }
+    ensures { BracketsAreFew r.now leftwards state side }
 {
-    let claim = r.automaton().claim(state, side);
-    r.automaton().rank(claim.corner)
+    let inner = inner_side(r, state, side, leftwards);
+    let automaton = r.automaton();
+    let claim = automaton.claim(state, inner);
+    let _rank = automaton.rank(claim.corner);
+}
+
+/// The side at whose left end the inner corner of a side lies from which the walk goes leftwards or rightwards.
+fn inner_side(r: &Rules, state: u32, side: u8, leftwards: bool) -> u8
+    requires state { state < length r.now.automaton.states }
+    requires side { side < count r.now.kinds r.now.automaton state }
+    ensures left { leftwards ≡ true → result ≡ side }
+    ensures right { leftwards ≡ false
+        → result ≡ previous (count r.now.kinds r.now.automaton state) side }
+    ensures below { result < count r.now.kinds r.now.automaton state }
+{
+    if leftwards {
+        side
+    } else {
+        next_right(r, state, side)
+    }
 }

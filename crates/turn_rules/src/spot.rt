@@ -1,20 +1,24 @@
 //! `Spot`: a tile of the tree by its name, with the states on the way to it, and one of its sides.
-ghost use Rattle.std.specs.Prelude.{◌≡◌, ◌≢◌, ◌<◌, ◌≤◌, suc, All, [], ◌∷◌, ◌++◌, length, slice_index, IfOk, OnOk, OnErr};
-ghost use Rattle.structure_check.specs.Rules.{TreeRules};
+ghost use Rattle.std.specs.Prelude.{◌≡◌, ◌≢◌, ◌<◌, ◌≤◌, suc, All, [], length, slice_index};
+ghost use Rattle.std.specs.Prelude.{IfOk, OnOk, OnErr};
+ghost use Rattle.structure_check.specs.Rules.{AreSound, TreeRules};
+ghost use Rattle.tile_model.specs.Tessellations.{IsType};
 ghost use Rattle.tree_model.specs.Automata.{state_at};
-ghost use Rattle.tree_model.specs.Positions.{root, parent, last_side};
-ghost use Rattle.turn_rules.specs.Spots.{IsSpot, IsAt, FacesChild, root_kind, tile_state, tile_sides, faced_rule, rejoined};
+ghost use Rattle.tree_model.specs.Positions.{root, type_of_side};
+ghost use Rattle.spot_laws.specs.Spots.{position, root_kind, tile_state, tile_sides, facing, rejoined};
+ghost use Rattle.spot_laws.specs.Spots.{IsSpot, IsAt, FacesChild, IsAtChild, IsAtParent};
 
-use crate::sides::rule;
 use cell_names::Name;
 use smallvec::SmallVec;
 use std::alloc::{AllocError, Global};
 use std::marker::Model;
-use structure_check::Rules;
+use structure_check::{Rules, side_type};
+use tile_kinds::DartType;
 use tree_model::Rule;
 
-/// A tile of the tree by its name, the states on the path from the root to it, and the number of the side that is faced. Calls that take
-/// rules ask for a spot of these rules: its path is that of its name, and its side is one of its tile.
+/// A tile of the tree by its name, the states on the path from the root to it, and the number of the side that is
+/// faced.
+/// Calls that take rules ask for a spot of these rules: its path is that of its name, and its side is one of its tile.
 #[derive(Debug, Drop)]
 pub struct Spot {
     name: Name,
@@ -24,7 +28,7 @@ pub struct Spot {
 
 impl Model for Spot {
     ghost use Rattle.std.specs.Prelude.{◌≡◌, suc, length};
-    ghost use Rattle.turn_rules.specs.Spots.{TreeSpot};
+    ghost use Rattle.spot_laws.specs.Spots.{TreeSpot};
 
     ghost Value = { TreeSpot };
 
@@ -51,11 +55,11 @@ impl Spot {
     pub fn down(&mut self, r: &Rules) -> Result<(), AllocError>
         requires spot { IsSpot r.now self.old }
         requires child { FacesChild r.now self.old }
-        ensures child { OnOk result (IsAt r.now (root_kind r.now self.old) (record { name = self.old.name ++ self.old.spin ∷ []; side = 0 }) self.new) }
+        ensures child { OnOk result (IsAtChild r.now self.old self.new) }
         ensures unchanged { OnErr result (self.new ≡ self.old) }
     {
-        let _ = r.automaton();
-        let Rule::Child(child) = rule(r, self.state(), self.spin) else {
+        let automaton = r.automaton();
+        let Rule::Child(child) = automaton.rule(self.state(), self.spin) else {
             unreachable!()
         };
         self.rejoin(self.level(), &[self.spin], &[child], 0)
@@ -65,9 +69,8 @@ impl Spot {
     pub fn up(&mut self, r: &Rules)
         requires spot { IsSpot r.now self.old }
         requires no_root { self.old.name ≢ [] }
-        ensures { IsAt r.now (root_kind r.now self.old) (record { name = parent self.old.name; side = last_side self.old.name }) self.new }
+        ensures { IsAtParent r.now self.old self.new }
     {
-        let _ = r.automaton();
         if let Some(side) = self.name.pop() {
             self.path.pop();
             self.spin = side;
@@ -78,15 +81,16 @@ impl Spot {
     pub fn face(&mut self, r: &Rules, spin: u8)
         requires spot { IsSpot r.now self.old }
         requires side { spin < tile_sides r.now self.old }
-        ensures faces { self.new ≡ record { name = self.old.name; path = self.old.path; spin = spin } }
-        ensures spot { IsAt r.now (root_kind r.now self.old) (record { name = self.old.name; side = spin }) self.new }
+        ensures faces { self.new ≡ facing self.old spin }
+        ensures spot { IsAt r.now (root_kind r.now self.old)
+            (position (facing self.old spin)) self.new }
     {
-        let _ = r.automaton();
         self.spin = spin;
     }
 
-    /// Keeps the first `kept` sides of the name, goes on by other sides, each below 64, through these states, and faces a side. Out of
-    /// memory the spot is as it was.
+    /// Keeps the first `kept` sides of the name, goes on by other sides, each below 64, through these states, and faces
+    /// a side.
+    /// Out of memory the spot is as it was.
     pub fn rejoin(
         &mut self,
         kept: usize,
@@ -97,7 +101,8 @@ impl Spot {
         requires kept { kept ≤ length self.old.name }
         requires below { All (λ side. side < 64) sides.now }
         requires states { length states.now ≡ length sides.now }
-        ensures rejoined { OnOk result (self.new ≡ rejoined self.old kept sides.now states.now faced) }
+        ensures rejoined { OnOk result
+            (self.new ≡ rejoined self.old kept sides.now states.now faced) }
         ensures unchanged { OnErr result (self.new ≡ self.old) }
     {
         self.path.reserve(states.len())?;
@@ -116,18 +121,6 @@ impl Spot {
             path: Vec::from_slice(alloc, &self.path)?,
             spin: self.spin,
         })
-    }
-
-    /// Becomes equal to another spot, in the memory that it has where that is enough. Out of memory it is as it was.
-    pub fn copy_from(&mut self, other: &Spot) -> Result<(), AllocError>
-        ensures equal { OnOk result (self.new ≡ other.now) }
-        ensures unchanged { OnErr result (self.new ≡ self.old) }
-    {
-        self.path.reserve(other.path.len())?;
-        self.name.rejoin(0, other.name.sides())?;
-        self.path.clear();
-        self.spin = other.spin;
-        self.path.extend_from_slice(&other.path)
     }
 
     /// The name of the tile.
@@ -162,19 +155,31 @@ impl Spot {
     /// The state of the tile, the last one on the path.
     pub fn state(&self) -> u32
         ensures last { result ≡ slice_index self.now.path (length self.now.name) }
-        ensures reached { (rules : TreeRules) → IsSpot rules self.now → result ≡ tile_state rules self.now }
+        ensures reached { (rules : TreeRules) → IsSpot rules self.now
+            → result ≡ tile_state rules self.now }
     {
         self.path[self.name.len()]
     }
 
     /// The kind of the tile.
-    #[tactic(auto, using(crate::proofs::Spots::tile_known))]
+    #[tactic(auto, using(spot_laws::proofs::Spots::tile_known))]
     pub fn kind(&self, r: &Rules) -> u8
         requires { IsSpot r.now self.now }
         ensures value { result ≡ (state_at r.now.automaton (tile_state r.now self.now)).kind }
         ensures known { result < length r.now.kinds }
     {
         r.automaton().state(self.state()).kind
+    }
+
+    /// The type of the faced side.
+    pub fn faced_type(&self, r: &Rules) -> DartType
+        requires { IsSpot r.now self.now }
+        ensures value { result ≡ type_of_side r.now.kinds r.now.automaton (root_kind r.now self.now)
+            (position self.now) }
+        ensures is_type { IsType r.now.kinds result }
+        ensures sound { AreSound r.now }
+    {
+        side_type(r.tessellation(), r.automaton(), self.state(), self.spin)
     }
 
     /// An empty list, which takes the memory that it comes to need from where the spot has its own.

@@ -1,10 +1,11 @@
-// Five tessellations with rules: pentagons and squares, four at a corner; heptagons, three; triangles, seven; heptagons and hexagons, three.
+// Two tessellations with rules: squares, four at a corner, and triangles, seven.
 use rules_data::{Automaton, Claim, Corner, Rule, State};
 use std::alloc::{AllocError, Global};
 use structure_check::{Rules, check};
 use tile_kinds::{Kind, Tessellation};
 
-// A state: its kind, the type of its side 0, its rules, and of its claims the corners and the places, all by digits and letters.
+// A state: its kind, the type of its side 0, its rules, and of its claims the corners and the places.
+// All of these are given by digits and letters.
 type Row<'a> = (u8, u8, &'a [u8], &'a [u8], &'a [u8]);
 
 // A corner type: its offsets, the outer corner with its place, and the rank.
@@ -93,17 +94,6 @@ fn accepted(kinds: Vec<Kind>, automaton: Automaton) -> Option<Rules> {
     check(Tessellation::make(kinds).ok()?, automaton).ok()
 }
 
-pub fn pentagons(alloc: Global) -> Result<Option<Rules>, AllocError> {
-    let rows: [Row<'_>; 3] = [
-        (0, 0, b"11111", b"00000", b"22222"),
-        (0, 0, b"PR112", b"00000", b"32221"),
-        (0, 0, b"PR12L", b"00000", b"32210"),
-    ];
-    let rounds: [Round<'_>; 1] = [(&[0, -1, -2, -1], (0, 1), 0)];
-    let automaton = tables(alloc, &rows, &rounds, &[0], 1)?;
-    Ok(accepted(regular(alloc, 5, 4)?, automaton))
-}
-
 pub fn squares(alloc: Global) -> Result<Option<Rules>, AllocError> {
     let rows: [Row<'_>; 3] = [
         (0, 0, b"1111", b"0000", b"2222"),
@@ -113,17 +103,6 @@ pub fn squares(alloc: Global) -> Result<Option<Rules>, AllocError> {
     let rounds: [Round<'_>; 1] = [(&[0, -1, -2, -1], (0, 1), 0)];
     let automaton = tables(alloc, &rows, &rounds, &[0], 1)?;
     Ok(accepted(regular(alloc, 4, 4)?, automaton))
-}
-
-pub fn heptagons(alloc: Global) -> Result<Option<Rules>, AllocError> {
-    let rows: [Row<'_>; 3] = [
-        (0, 0, b"1111111", b"0000000", b"1111111"),
-        (0, 0, b"PRR112L", b"0100010", b"2211110"),
-        (0, 0, b"PRR12LL", b"0100101", b"2211100"),
-    ];
-    let rounds: [Round<'_>; 2] = [(&[0, -1, 0], (1, 1), 1), (&[0, -1, -1], (0, 0), 0)];
-    let automaton = tables(alloc, &rows, &rounds, &[0], 2)?;
-    Ok(accepted(regular(alloc, 7, 3)?, automaton))
 }
 
 pub fn triangles(alloc: Global) -> Result<Option<Rules>, AllocError> {
@@ -147,33 +126,4 @@ pub fn triangles(alloc: Global) -> Result<Option<Rules>, AllocError> {
     ];
     let automaton = tables(alloc, &rows, &rounds, &[0], 2)?;
     Ok(accepted(regular(alloc, 3, 7)?, automaton))
-}
-
-pub fn mixed(alloc: Global) -> Result<Option<Rules>, AllocError> {
-    let rows: [Row<'_>; 8] = [
-        (0, 0, b"2222222", b"0000000", b"1111111"),
-        (1, 0, b"636363", b"000000", b"111111"),
-        (1, 0, b"PRR37L", b"010010", b"221110"),
-        (1, 1, b"PRR65L", b"010010", b"221110"),
-        (1, 0, b"PRR5LL", b"010101", b"221100"),
-        (1, 1, b"PRR7LL", b"010101", b"221100"),
-        (0, 0, b"PRR224L", b"0100010", b"2211110"),
-        (0, 0, b"PRR24LL", b"0100101", b"2211100"),
-    ];
-    let rounds: [Round<'_>; 2] = [(&[0, -1, 0], (1, 1), 1), (&[0, -1, -1], (0, 0), 0)];
-    let automaton = tables(alloc, &rows, &rounds, &[0, 1], 2)?;
-    let mut kinds = Vec::new(alloc);
-    kinds.push(Kind {
-        sides: 7,
-        repeat: 1,
-        partner: vec![in alloc; (1, 0)]?,
-        valence: vec![in alloc; 3]?,
-    })?;
-    kinds.push(Kind {
-        sides: 6,
-        repeat: 2,
-        partner: vec![in alloc; (0, 0), (1, 1)]?,
-        valence: vec![in alloc; 3, 3]?,
-    })?;
-    Ok(accepted(kinds, automaton))
 }

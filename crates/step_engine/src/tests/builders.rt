@@ -1,6 +1,6 @@
 // Rules of three tilings, built as values.
 ghost use Rattle.std.specs.Prelude.{IfOk, IfSome};
-ghost use Rattle.turn_rules.specs.Spots.{IsSpot};
+ghost use Rattle.spot_laws.specs.Spots.{IsSpot};
 
 use crate::root_spot;
 use rules_data::Rule::{Child, Left, Parent, Right};

@@ -1,7 +1,7 @@
-// The engine beside a slow program that follows the definition of what lies across: it finds the side that is matched with another by
-// recursion, and counts no brackets.
+// The engine beside a slow program that follows the definition of what lies across: it finds the side that is matched
+// with another by recursion, and counts no brackets.
 ghost use Rattle.std.specs.Prelude.{OnOk};
-ghost use Rattle.turn_rules.specs.Spots.{IsSpot};
+ghost use Rattle.spot_laws.specs.Spots.{IsSpot};
 
 use super::builders::{heptagons, pentagons, start, truncated};
 use crate::walk;
@@ -71,8 +71,8 @@ impl<'r> Slow<'r> {
         Ok(())
     }
 
-    // From a Left side, leftwards, to the Right side that is matched with it, or the mirror image: turn by turn, across each side of the
-    // tree, and over each pair of matched sides that opens on the way.
+    // From a Left side, leftwards, to the Right side that is matched with it, or the mirror image: turn by turn, across
+    // each side of the tree, and over each pair of matched sides that opens on the way.
     fn find_match(&mut self, leftwards: bool, moves: u32) -> Result<(), Fail> {
         for spent in 0..moves {
             self.turn(leftwards).ok_or("no such tile")?;

@@ -1,6 +1,6 @@
 // The steps of a spot in a tree of two kinds of tile, with the names and states that the tables tell.
 ghost use Rattle.std.specs.Prelude.{OnOk};
-ghost use Rattle.turn_rules.specs.Spots.{IsSpot};
+ghost use Rattle.spot_laws.specs.Spots.{IsSpot};
 
 use super::builders::{start, truncated};
 use rules_data::Rule;
@@ -8,15 +8,15 @@ use smallvec::SmallVec;
 use std::alloc::{AllocError, Global};
 use std::test::Fail;
 use structure_check::Rules;
-use turn_rules::{Spot, rule, side_count};
+use turn_rules::{Spot, rule};
 
 // Faces a side of the tile, and goes to the child across it. It answers whether there is one.
+#[tactic(auto, using(spot_laws::proofs::Spots::tile_known), unfolding(tree_model::specs::Automata::side_count))]
 fn enter(s: &mut Spot, r: &Rules, side: u8) -> Result<bool, AllocError>
     requires { IsSpot r.now s.old }
     ensures { OnOk result (IsSpot r.now s.new) }
 {
-    let _ = r.automaton();
-    if side >= side_count(r, s.state()) {
+    if side >= r.tessellation().kind(s.kind(r)).sides {
         return Ok(false);
     }
     s.face(r, side);
@@ -65,27 +65,6 @@ fn enters_and_leaves(rt: HostRuntime) -> Result<(), Fail> {
     assert!(rt; is_at(&s, &[5, 3, 3], &[0, 2, 3, 6], 0) && s.kind(&r) == 0);
     assert!(rt; leave(&mut s, &r));
     assert!(rt; is_at(&s, &[5, 3], &[0, 2, 3], 3) && s.kind(&r) == 1);
-    Ok(())
-}
-
-// Whether a spot that becomes equal to another one, far from it, stays there when that one goes on, from the memory of either.
-fn moves_alone(alloc: Global, r: &Rules) -> Result<bool, AllocError> {
-    let (Some(mut s), Some(mut other)) = (start(alloc, r)?, start(alloc, r)?) else {
-        return Ok(false);
-    };
-    let went = enter(&mut s, r, 5)? && enter(&mut s, r, 3)?;
-    other.copy_from(&s)?;
-    let left = leave(&mut s, r);
-    Ok(went && left && is_at(&other, &[5, 3], &[0, 2, 3], 0) && is_at(&s, &[5], &[0, 2], 3))
-}
-
-#[test]
-fn becomes_another(rt: HostRuntime) -> Result<(), Fail> {
-    let alloc = rt.alloc();
-    let Some(r) = truncated(alloc)? else {
-        panic!(rt; "refused");
-    };
-    assert!(rt; moves_alone(alloc, &r)?);
     Ok(())
 }
 

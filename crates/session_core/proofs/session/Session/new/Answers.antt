@@ -1,11 +1,12 @@
-use Rattle.session_core.proofs.Going.{empty_session, empty_stands, empty_stands_over_walks}
+use Rattle.session_core.proofs.Going.{empty_session, empty_stands}
 use Rattle.session_core.proofs.session.Session.new.Goals as goal
 
 pub invariant_of-result : goal.invariant_of-result
-invariant_of-result c = empty_session _ c.requires c.in_ok-no_walkers.ensures
+invariant_of-result c =
+    empty_session _ c.automaton-automaton.ensures.sound c.requires c.in_ok-no_walkers.ensures
 
 pub returns-clause-stands : goal.returns-clause-stands
-returns-clause-stands c = empty_stands _ c.in_ok-no_walkers.ensures
+returns-clause-stands c = empty_stands _ _ c.in_ok-no_walkers.ensures
 
 pub returns-clause-stands_over_walks : goal.returns-clause-stands_over_walks
-returns-clause-stands_over_walks c = empty_stands_over_walks _ c.in_ok-no_walkers.ensures
+returns-clause-stands_over_walks c = empty_stands _ _ c.in_ok-no_walkers.ensures

@@ -1,33 +1,33 @@
-use Rattle.std.proofs.Common.{inl, inr, subst}
+use Rattle.std.proofs.Common.{inl, inr}
 use Rattle.std.proofs.lemmas.Bool.{both_ways}
-use Rattle.structure_check.specs.Rules.{AreSound}
 use Rattle.reply_model.specs.declared.Command.TheVariants.{Same}
 use Rattle.reply_model.specs.declared.Reply.TheVariants.{NoWalker, Yes, No}
-use Rattle.session_core.specs.Sessions.{SessionState, IsSession}
 use Rattle.session_core.proofs.Steps.{same_nobody, one_tile, two_tiles}
 use Rattle.session_core.proofs.Standing.{answered}
 use Rattle.session_core.proofs.session.Session.same.Goals as goal
 
 pub returns-in_default : goal.returns-in_default
 returns-in_default c =
-    let sound = subst (λ (s : SessionState). AreSound s.rules) c.self.view_is c.automaton.ensures.sound in
-    let is = subst IsSession c.self.view_is c.self.invariant in
-    answered c.args.self.now (Same c.args.w c.args.v) NoWalker c.args.self.now sound is (c.requires.first, c.requires.second) (same_nobody c.args.w c.args.v (inl c.in_default.ensures))
+    answered c.args.self.now (Same c.args.w c.args.v) NoWalker c.args.self.now
+    c.spot.ensures.session (c.requires.first, c.requires.second)
+    (same_nobody c.args.w c.args.v (inl c.in_default.ensures.found))
 
 pub returns-in_default-spot : goal.returns-in_default-spot
 returns-in_default-spot c =
-    let sound = subst (λ (s : SessionState). AreSound s.rules) c.self.view_is c.automaton.ensures.sound in
-    let is = subst IsSession c.self.view_is c.self.invariant in
-    answered c.args.self.now (Same c.args.w c.args.v) NoWalker c.args.self.now sound is (c.requires.first, c.requires.second) (same_nobody c.args.w c.args.v (inr c.in_default-spot.ensures))
+    answered c.args.self.now (Same c.args.w c.args.v) NoWalker c.args.self.now
+    c.spot.ensures.session (c.requires.first, c.requires.second)
+    (same_nobody c.args.w c.args.v (inr c.in_default-spot.ensures.found))
 
 pub returns-then-are_together : goal.returns-then-are_together
 returns-then-are_together c =
-    let sound = subst (λ (s : SessionState). AreSound s.rules) c.self.view_is c.automaton.ensures.sound in
-    let is = subst IsSession c.self.view_is c.self.invariant in
-    answered c.args.self.now (Same c.args.w c.args.v) Yes c.args.self.now sound is (c.requires.first, c.requires.second) (one_tile c.args.w c.args.v _ _ c.in-Some.ensures c.in-Some-spot.ensures (c.are_together.ensures.0 c.if-are_together.true))
+    answered c.args.self.now (Same c.args.w c.args.v) Yes c.args.self.now c.spot.ensures.session
+    (c.requires.first, c.requires.second)
+    (one_tile c.args.w c.args.v _ _ c.in-Some.ensures.found c.in-Some-spot.ensures.found
+    (c.are_together.ensures.0 c.if-are_together.true))
 
 pub returns-else-are_together : goal.returns-else-are_together
 returns-else-are_together c =
-    let sound = subst (λ (s : SessionState). AreSound s.rules) c.self.view_is c.automaton.ensures.sound in
-    let is = subst IsSession c.self.view_is c.self.invariant in
-    answered c.args.self.now (Same c.args.w c.args.v) No c.args.self.now sound is (c.requires.first, c.requires.second) (two_tiles c.args.w c.args.v _ _ c.in-Some.ensures c.in-Some-spot.ensures (λ n. both_ways _ c.if-are_together.false (c.are_together.ensures.1 n)))
+    answered c.args.self.now (Same c.args.w c.args.v) No c.args.self.now c.spot.ensures.session
+    (c.requires.first, c.requires.second)
+    (two_tiles c.args.w c.args.v _ _ c.in-Some.ensures.found c.in-Some-spot.ensures.found
+    (λ n. both_ways _ c.if-are_together.false (c.are_together.ensures.1 n)))

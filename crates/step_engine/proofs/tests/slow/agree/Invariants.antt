@@ -1,4 +1,4 @@
-use Rattle.turn_rules.specs.Spots.{IsSpot}
+use Rattle.spot_laws.specs.Spots.{IsSpot}
 use Rattle.step_engine.proofs.tests.slow.agree.Given as goal
 
 abbrev pub invariant-loop-x : goal.invariant-loop-x

@@ -1,6 +1,6 @@
 use Rattle.std.proofs.Common.{refl, ap, ◌∙◌, ◌∷◌, []}
 use Rattle.tree_model.specs.Automata.{root_at}
-use Rattle.turn_rules.proofs.Spots.{root_is}
+use Rattle.spot_laws.proofs.Spots.{root_is}
 use Rattle.turn_rules.proofs.spot.Spot.root.Goals as goal
 
 pub returns : goal.returns

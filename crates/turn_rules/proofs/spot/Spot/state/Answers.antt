@@ -1,5 +1,5 @@
 use Rattle.std.proofs.Common.{◌∙◌, ap, ap₂, length, slice_index_or}
-use Rattle.turn_rules.proofs.Spots.{spot_state}
+use Rattle.spot_laws.proofs.Spots.{spot_state}
 use Rattle.turn_rules.proofs.spot.Spot.state.Goals as goal
 
 pub returns-clause-reached : goal.returns-clause-reached

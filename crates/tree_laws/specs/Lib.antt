@@ -1,0 +1,4 @@
+pub mod Plane
+pub mod Machine
+pub mod Directions
+pub mod Laws

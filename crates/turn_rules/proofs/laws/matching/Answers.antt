@@ -1,8 +1,0 @@
-use Rattle.turn_rules.proofs.Together.{left_sides, right_sides}
-use Rattle.turn_rules.proofs.laws.matching.Goals as goal
-
-pub returns-clause-left_sides : goal.returns-clause-left_sides
-returns-clause-left_sides c = left_sides
-
-pub returns-clause-right_sides : goal.returns-clause-right_sides
-returns-clause-right_sides c = right_sides
