@@ -1,0 +1,9 @@
+pub mod Numbers
+pub mod Names
+pub mod Chains
+pub mod Periods
+pub mod Falls
+pub mod Moves
+pub mod Settled
+pub mod Links
+pub mod Merges

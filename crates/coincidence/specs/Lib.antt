@@ -1,0 +1,5 @@
+pub mod Darts
+pub mod Cells
+pub mod Atlases
+pub mod Followed
+pub mod Pending
