@@ -7,3 +7,5 @@ pub mod Moves
 pub mod Settled
 pub mod Links
 pub mod Merges
+pub mod Anew
+pub mod Unchained

@@ -4,6 +4,7 @@ use Rattle.coincidence.specs.declared.table.Cell.{Cell}
 use Rattle.coincidence.specs.declared.table.Table.{Table}
 use Rattle.coincidence.specs.Darts.{nowhere, slot_at, IsTaken}
 use Rattle.coincidence.specs.Cells.{cell_at, turn_at, into_at, shift_at, IsOrdered, live_count, IsLive}
+use Rattle.coincidence.specs.Atlases.{Atlas, IsSound}
 use Rattle.coincidence.specs.Followed.{IsFollowed}
 
 -- the end of the chain
@@ -90,3 +91,19 @@ pub record HasMoved (t t' : Table) : Type 0 where
   pub followed : IsFollowed t.cells.items t.slots.items t'.cells.items t'.slots.items
   pub covered : (c i : ℕ) → AreCovered t.cells.items t.slots.items c i → AreCovered t'.cells.items t'.slots.items c i
   pub falls : work t'.cells.items ≤ work t.cells.items
+
+-- The first cell was taken from the chain, and what was pending is that of the cells still chained and of it.
+pub record HasUnchained (t t' : Table) (c : ℕ) : Type 0 where
+  pub made : c < length t.cells.items
+  pub shaped : IsShaped t'
+  pub followed : IsFollowed t.cells.items t.slots.items t'.cells.items t'.slots.items
+  pub covered : AreCovered t.cells.items t.slots.items 0 64 → AreCovered t'.cells.items t'.slots.items c 0
+  pub falls : work t'.cells.items < work t.cells.items
+  pub sound : (atlas : Atlas) → IsSound atlas t.cells.items t.slots.items → IsSound atlas t'.cells.items t'.slots.items
+
+-- The table was changed by joining anew what was pending.
+pub record HasSettled (t t' : Table) : Type 0 where
+  pub shaped : IsShaped t'
+  pub followed : IsFollowed t.cells.items t.slots.items t'.cells.items t'.slots.items
+  pub falls : work t'.cells.items ≤ work t.cells.items
+  pub sound : (atlas : Atlas) → IsSound atlas t.cells.items t.slots.items → IsSound atlas t'.cells.items t'.slots.items

@@ -3,11 +3,11 @@
 // A slot of a side below its cell's turn holds the dart that is joined there. Where a turn falls, or a cell is renamed, the sides past the
 // turn keep what they held, and what they held still holds of the darts that they are now named: it waits there to be joined anew.
 // The cells with such slots are chained through their records, so that nothing else need be kept.
-ghost use Rattle.std.specs.Prelude.{◌≡◌, ◌==◌, if◌then◌else◌, ℕ, ◌+◌, ◌-◌, ◌*◌, ◌/◌, ◌%◌, ◌<◌, ◌≤◌, ◌≢◌, length, slice_set, MatchOption, Option};
+ghost use Rattle.std.specs.Prelude.{◌≡◌, ◌==◌, if◌then◌else◌, ℕ, ◌+◌, ◌-◌, ◌*◌, ◌/◌, ◌%◌, ◌<◌, ◌≤◌, ◌≢◌, length, slice_set, IfNone, IfSome, ◌⊎◌};
 ghost use Rattle.coincidence.specs.Darts.{pack, unpack, slot_at, nowhere, IsTaken};
 ghost use Rattle.coincidence.specs.Cells.{name, cell_at, turn_at, IsLive};
 ghost use Rattle.coincidence.specs.Atlases.{Atlas, AreOne, HasPeriod, walk_of, LieAcross, IsSound, AllowsFall};
-ghost use Rattle.coincidence.specs.Pending.{IsShaped, IsQuiet, IsChained, AreCovered, work, next_at, written_cell, written_head, MayFall, HasMoved};
+ghost use Rattle.coincidence.specs.Pending.{IsShaped, IsQuiet, IsPending, IsChained, AreCovered, HasUnchained, HasSettled, written_cell, written_head, MayFall, HasMoved};
 ghost use Rattle.coincidence.specs.Followed.{IsFollowed, AreNamed, IsSettled};
 
 use crate::dart::{NOWHERE, WIDTH};
@@ -197,6 +197,119 @@ impl Table {
         } else {
             self.link(a, b);
         }
+    }
+
+    /// Empties the slots of two darts that are joined.
+    fn clear(&mut self, dart: u32, over: u32)
+        requires shaped { IsShaped self.old }
+        requires taken { IsTaken self.old.slots.items dart }
+        requires over { over ≡ slot_at self.old.slots.items dart }
+        ensures shaped { IsShaped self.new }
+        ensures cells { self.new.cells ≡ self.old.cells }
+        ensures empty { slot_at self.new.slots.items dart ≡ nowhere }
+        ensures still { (n : ℕ) → IsTaken self.new.slots.items n
+            → IsTaken self.old.slots.items n × (slot_at self.new.slots.items n ≡ slot_at self.old.slots.items n) }
+        ensures only { (n : ℕ) → IsTaken self.old.slots.items n → (n ≡ dart) ⊎ ((n ≡ over) ⊎ IsTaken self.new.slots.items n) }
+    {
+        self.slots[dart as usize] = NOWHERE;
+        self.slots[over as usize] = NOWHERE;
+    }
+
+    /// Joins anew what waits in a slot past its cell's turn, under the names that both darts have now.
+    fn join_anew(&mut self, dart: u32, over: u32)
+        requires shaped { IsShaped self.old }
+        requires pending { IsPending self.old.cells.items self.old.slots.items dart }
+        requires over { over ≡ slot_at self.old.slots.items dart }
+        ensures settled { HasSettled self.old self.new }
+        ensures covered { AreCovered self.old.cells.items self.old.slots.items (dart / 64) (dart % 64)
+            → AreCovered self.new.cells.items self.new.slots.items (dart / 64) (dart % 64 + 1) }
+    {
+        self.clear(dart, over);
+        let a = self.name(dart / WIDTH, dart % WIDTH);
+        let b = self.name(over / WIDTH, over % WIDTH);
+        self.step(a, b);
+    }
+
+    /// Joins anew what waits in a slot, if it is past its cell's turn.
+    fn settle(&mut self, dart: u32)
+        requires shaped { IsShaped self.old }
+        requires made { dart < 64 * length self.old.cells.items }
+        ensures settled { HasSettled self.old self.new }
+        ensures covered { AreCovered self.old.cells.items self.old.slots.items (dart / 64) (dart % 64)
+            → AreCovered self.new.cells.items self.new.slots.items (dart / 64) (dart % 64 + 1) }
+    {
+        let over = self.slots[dart as usize];
+        let turn = self.cells[(dart / WIDTH) as usize].turn as u32;
+        if over != NOWHERE {
+            if turn <= dart % WIDTH {
+                self.join_anew(dart, over);
+            }
+        }
+    }
+
+    /// Joins anew what waits in the slots of a cell.
+    fn settle_cell(&mut self, cell: u32)
+        requires shaped { IsShaped self.old }
+        requires made { cell < length self.old.cells.items }
+        ensures settled { HasSettled self.old self.new }
+        ensures covered { AreCovered self.old.cells.items self.old.slots.items cell 0
+            → AreCovered self.new.cells.items self.new.slots.items 0 64 }
+    {
+        for side in 0..WIDTH {
+            self.settle(cell * WIDTH + side);
+        }
+    }
+
+    /// Takes the first cell from the chain.
+    fn next_chained(&mut self) -> Option<u32>
+        requires { IsShaped self.old }
+        ensures none { IfNone result ((c : ℕ) → IsChained self.new.cells.items c → ⊥) }
+        ensures same { IfNone result (self.new ≡ self.old) }
+        ensures some { IfSome result (HasUnchained self.old self.new) }
+    {
+        let cell = self.head;
+        if cell == LAST_LINK {
+            return None;
+        }
+        let old = self.cells[cell as usize];
+        self.head = old.next;
+        self.cells[cell as usize] = Cell {
+            turn: old.turn,
+            shift: old.shift,
+            into: old.into,
+            next: NOWHERE,
+        };
+        Some(cell)
+    }
+
+    /// Joins anew all that waits.
+    fn settle_all(&mut self)
+        requires shaped { IsShaped self.old }
+        requires covered { AreCovered self.old.cells.items self.old.slots.items 0 64 }
+        ensures settled { HasSettled self.old self.new }
+        ensures quiet { IsQuiet self.new.cells.items self.new.slots.items }
+    {
+        while let Some(cell) = self.next_chained() {
+            self.settle_cell(cell);
+        }
+    }
+
+    /// Joins two darts of live cells, and all that follows from it. Takes no memory.
+    pub(crate) fn join(&mut self, a: u32, b: u32)
+        requires shaped { IsShaped self.old }
+        requires quiet { IsQuiet self.old.cells.items self.old.slots.items }
+        requires first { IsSettled self.old.cells.items a }
+        requires second { IsSettled self.old.cells.items b }
+        ensures shaped { IsShaped self.new }
+        ensures followed { IsFollowed self.old.cells.items self.old.slots.items self.new.cells.items self.new.slots.items }
+        ensures quiet { IsQuiet self.new.cells.items self.new.slots.items }
+        ensures named { AreNamed self.new.cells.items self.new.slots.items (name self.new.cells.items (unpack a))
+            (name self.new.cells.items (unpack b)) }
+        ensures sound { (atlas : Atlas) → IsSound atlas self.old.cells.items self.old.slots.items → LieAcross atlas (unpack a) (unpack b)
+            → IsSound atlas self.new.cells.items self.new.slots.items }
+    {
+        self.step(a, b);
+        self.settle_all();
     }
 }
 
