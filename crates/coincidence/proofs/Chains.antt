@@ -17,11 +17,20 @@ module _ (cells : List Cell) where
   chain_member (goes c rest made chained apart met) (later _ _ among) = chain_member met among
 
   -- written elsewhere, the chain stays
-  pub chain_stays : (cells' : List Cell) → length cells' ≡ length cells → {head : ℕ} {chain : List ℕ} → ((x : ℕ) → IsAmong x chain → next_at cells' x ≡ next_at cells x) → IsChain cells head chain → IsChain cells' head chain
-  chain_stays cells' long same (ends head last) = ends head last
-  chain_stays cells' long same (goes c rest made chained apart met) =
+  pub chain_grows : (cells' : List Cell) → length cells ≤ length cells' → {head : ℕ} {chain : List ℕ} → ((x : ℕ) → IsAmong x chain → next_at cells' x ≡ next_at cells x) → IsChain cells head chain → IsChain cells' head chain
+  chain_grows cells' long same (ends head last) = ends head last
+  chain_grows cells' long same (goes c rest made chained apart met) =
       let here = same c (first rest) in
-      goes c rest (omega arith) (λ e. chained (sym here ∙ e)) apart (subst (λ h. IsChain cells' h rest) (sym here) (chain_stays cells' long (λ x among. same x (later c rest among)) met))
+      goes c rest (omega arith) (λ e. chained (sym here ∙ e)) apart (subst (λ h. IsChain cells' h rest) (sym here) (chain_grows cells' long (λ x among. same x (later c rest among)) met))
+
+  pub chain_stays : (cells' : List Cell) → length cells' ≡ length cells → {head : ℕ} {chain : List ℕ} → ((x : ℕ) → IsAmong x chain → next_at cells' x ≡ next_at cells x) → IsChain cells head chain → IsChain cells' head chain
+  chain_stays cells' long same met = chain_grows cells' (omega (arith, long)) same met
+
+  -- a member of a chain is a cell that is there
+  pub chain_made : {head : ℕ} {chain : List ℕ} → IsChain cells head chain → {x : ℕ} → IsAmong x chain → x < length cells
+  chain_made (ends head last) among = elim among [ ]
+  chain_made (goes c rest made chained apart met) (first _) = made
+  chain_made (goes c rest made chained apart met) (later _ _ among) = chain_made met among
 
   -- a cell that is not chained is put before the chain
   pub chain_put : (cells' : List Cell) (head c : ℕ) → length cells' ≡ length cells → c < length cells → ¬ (IsChained cells c) → ¬ (head ≡ nowhere) → next_at cells' c ≡ head → ((x : ℕ) → ¬ (x ≡ c) → next_at cells' x ≡ next_at cells x) → HasChain cells head → HasChain cells' c

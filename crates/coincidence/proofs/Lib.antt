@@ -9,3 +9,9 @@ pub mod Links
 pub mod Merges
 pub mod Anew
 pub mod Unchained
+pub mod Kept
+pub mod Calls
+pub mod Origins
+pub mod Extends
+pub mod Made
+pub mod Empty

@@ -62,6 +62,13 @@ module _ (cells : List Cell) where
     pub name_name : (d : ℕ × ℕ) → name cells (name cells d) ≡ name cells d
     name_name d = let h = named d.0 d.1 in name_settled (name cells d).0 (name cells d).1 h.below
 
+-- all sides of a cell become sides of one cell
+pub name_cell : (cells : List Cell) → IsOrdered cells → (c i j : ℕ) → (name cells (c, i)).0 ≡ (name cells (c, j)).0
+name_cell cells ordered c i j = by_names cells ordered (λ c i. (j : ℕ) → (name cells (c, i)).0 ≡ (name cells (c, j)).0)
+  (λ c i live j. ap (λ p. p.0) (name_live cells ordered c i live) ∙ sym (ap (λ p. p.0) (name_live cells ordered c j live)))
+  (λ c i gone rest j. ap (λ p. p.0) (name_renamed cells ordered c i gone) ∙ (rest (j + shift_at cells c) ∙ sym (ap (λ p. p.0) (name_renamed cells ordered c j gone))))
+  c i j
+
 -- Names are composed where renamed cells stay as they are, and sides equal modulo the old turn of a live cell keep one name.
 pub record Respects (cells cells' : List Cell) : Type 0 where
   pub gone : (c : ℕ) → turn_at cells c ≡ 0 → turn_at cells' c ≡ 0

@@ -3,3 +3,5 @@ pub mod Cells
 pub mod Atlases
 pub mod Followed
 pub mod Pending
+pub mod Tables
+pub mod Joined

@@ -1,5 +1,5 @@
 -- What still follows from renamings: darts that wait in the slots of sides past the turn, and the chain of the cells that hold them.
-use Rattle.std.specs.Prelude.{◌≡◌, ℕ, ◌+◌, ◌*◌, ◌/◌, ◌%◌, ◌<◌, ◌≤◌, ◌⊎◌, ◌==◌, List, [], ◌∷◌, length, Bool, if◌then◌else◌, sum_by}
+use Rattle.std.specs.Prelude.{◌≡◌, ℕ, ◌+◌, ◌*◌, ◌/◌, ◌%◌, ◌<◌, ◌≤◌, ◌⊎◌, ◌==◌, List, [], ◌∷◌, ◌++◌, length, Bool, if◌then◌else◌, sum_by}
 use Rattle.coincidence.specs.declared.table.Cell.{Cell}
 use Rattle.coincidence.specs.declared.table.Table.{Table}
 use Rattle.coincidence.specs.Darts.{nowhere, slot_at, IsTaken}
@@ -107,3 +107,15 @@ pub record HasSettled (t t' : Table) : Type 0 where
   pub followed : IsFollowed t.cells.items t.slots.items t'.cells.items t'.slots.items
   pub falls : work t'.cells.items ≤ work t.cells.items
   pub sound : (atlas : Atlas) → IsSound atlas t.cells.items t.slots.items → IsSound atlas t'.cells.items t'.slots.items
+
+-- a live cell that is in no chain
+abbrev pub fresh_cell : ℕ → Cell
+fresh_cell turn = record { turn = turn; shift = 0; into = 0; next = nowhere }
+
+-- A live cell was added, of whose sides none is joined.
+pub record IsExtended (t t' : Table) (turn : ℕ) : Type 0 where
+  pub cells : t'.cells.items ≡ t.cells.items ++ fresh_cell turn ∷ []
+  pub count : length t'.slots.items ≡ length t.slots.items + 64
+  pub same : (n : ℕ) → slot_at t'.slots.items n ≡ slot_at t.slots.items n
+  pub head : t'.head ≡ t.head
+  pub live : t'.live ≡ t.live + 1

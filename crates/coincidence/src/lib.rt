@@ -4,6 +4,7 @@
 mod dart;
 mod divisor;
 mod joins;
+mod origin;
 mod table;
 
 pub use dart::Dart;

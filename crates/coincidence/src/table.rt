@@ -3,15 +3,16 @@
 // A slot of a side below its cell's turn holds the dart that is joined there. Where a turn falls, or a cell is renamed, the sides past the
 // turn keep what they held, and what they held still holds of the darts that they are now named: it waits there to be joined anew.
 // The cells with such slots are chained through their records, so that nothing else need be kept.
-ghost use Rattle.std.specs.Prelude.{◌≡◌, ◌==◌, if◌then◌else◌, ℕ, ◌+◌, ◌-◌, ◌*◌, ◌/◌, ◌%◌, ◌<◌, ◌≤◌, ◌≢◌, length, slice_set, IfNone, IfSome, ◌⊎◌};
+ghost use Rattle.std.specs.Prelude.{◌≡◌, ◌==◌, if◌then◌else◌, ℕ, ◌+◌, ◌-◌, ◌*◌, ◌/◌, ◌%◌, ◌<◌, ◌≤◌, ◌≢◌, length, slice_set, IfNone, IfSome, ◌⊎◌, [], OnOk, OnErr, IsOk};
 ghost use Rattle.coincidence.specs.Darts.{pack, unpack, slot_at, nowhere, IsTaken};
 ghost use Rattle.coincidence.specs.Cells.{name, cell_at, turn_at, IsLive};
 ghost use Rattle.coincidence.specs.Atlases.{Atlas, AreOne, HasPeriod, walk_of, LieAcross, IsSound, AllowsFall};
-ghost use Rattle.coincidence.specs.Pending.{IsShaped, IsQuiet, IsPending, IsChained, AreCovered, HasUnchained, HasSettled, written_cell, written_head, MayFall, HasMoved};
+ghost use Rattle.coincidence.specs.Pending.{IsShaped, IsQuiet, IsPending, IsChained, AreCovered, HasUnchained, HasSettled, IsExtended, last_link, written_cell, written_head, MayFall, HasMoved};
 ghost use Rattle.coincidence.specs.Followed.{IsFollowed, AreNamed, IsSettled};
 
 use crate::dart::{NOWHERE, WIDTH};
 use crate::divisor::common_divisor;
+use std::alloc::{AllocError, Global};
 
 /// The end of the chain of cells.
 pub(crate) const LAST_LINK: u32 = 4_294_967_294;
@@ -36,6 +37,42 @@ pub(crate) struct Table {
 }
 
 impl Table {
+    /// A table of no cells. Takes no memory.
+    pub(crate) fn empty(alloc: Global) -> Table
+        ensures cells { result.cells.items ≡ [] }
+        ensures slots { result.slots.items ≡ [] }
+        ensures head { result.head ≡ last_link }
+        ensures live { result.live ≡ 0 }
+    {
+        Table {
+            cells: Vec::new(alloc),
+            slots: Vec::new(alloc),
+            head: LAST_LINK,
+            live: 0,
+        }
+    }
+
+    /// Adds a live cell with so many sides, of which none is joined. Out of memory the table is as it was.
+    pub(crate) fn extend(&mut self, turn: u8) -> Result<(), AllocError>
+        requires { self.old.live < 1000000 }
+        ensures extended { OnOk result (IsExtended self.old self.new turn) }
+        ensures same_cells { OnErr result (self.new.cells.items ≡ self.old.cells.items) }
+        ensures same_slots { OnErr result (self.new.slots.items ≡ self.old.slots.items) }
+        ensures same_head { OnErr result (self.new.head ≡ self.old.head) }
+        ensures same_live { OnErr result (self.new.live ≡ self.old.live) }
+    {
+        self.cells.reserve(1)?;
+        add_empty(&mut self.slots)?;
+        self.cells.push(Cell {
+            turn,
+            shift: 0,
+            into: 0,
+            next: NOWHERE,
+        })?;
+        self.live += 1;
+        Ok(())
+    }
+
     /// The dart of a live cell that a side of a cell is.
     pub(crate) fn name(&self, cell: u32, side: u32) -> u32
         requires shaped { IsShaped self.now }
@@ -159,7 +196,7 @@ impl Table {
     }
 
     /// Joins two darts of live cells whose slots are empty.
-    fn link(&mut self, a: u32, b: u32)
+    pub(crate) fn link(&mut self, a: u32, b: u32)
         requires shaped { IsShaped self.old }
         requires first { IsSettled self.old.cells.items a }
         requires second { IsSettled self.old.cells.items b }
@@ -168,6 +205,7 @@ impl Table {
         ensures moved { HasMoved self.old self.new }
         ensures cells { self.new.cells ≡ self.old.cells }
         ensures slot { slot_at self.new.slots.items a ≡ b }
+        ensures others { (n : ℕ) → n ≢ a → n ≢ b → slot_at self.new.slots.items n ≡ slot_at self.old.slots.items n }
         ensures sound { (atlas : Atlas) → IsSound atlas self.old.cells.items self.old.slots.items → LieAcross atlas (unpack a) (unpack b)
             → IsSound atlas self.new.cells.items self.new.slots.items }
     {
@@ -318,4 +356,13 @@ fn apart(i: u32, j: u32) -> u32
     ensures { result ≡ (i - j) + (j - i) }
 {
     if i < j { j - i } else { i - j }
+}
+
+/// Adds the empty slots of one more cell. Out of memory nothing is added.
+fn add_empty(slots: &mut Vec<u32>) -> Result<(), AllocError>
+    ensures count { OnOk result (length slots.new.items ≡ length slots.old.items + 64) }
+    ensures same { IsOk result → (n : ℕ) → slot_at slots.new.items n ≡ slot_at slots.old.items n }
+    ensures unchanged { OnErr result (slots.new.items ≡ slots.old.items) }
+{
+    slots.extend_from_slice(&[NOWHERE; 64])
 }
