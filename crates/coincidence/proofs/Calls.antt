@@ -1,6 +1,6 @@
 -- A call of `join`: both darts are named, and what the table does with their names.
-use Rattle.std.proofs.Common.{◌≡◌, ℕ, zero, suc, ◌+◌, ◌-◌, ◌*◌, ◌/◌, ◌%◌, ◌<◌, ◌≤◌, cond, nat_eq, List, [], ◌∷◌, ◌++◌, length, sum_by, Option, Some, None, refl, sym, ap, ap₂, ◌∙◌, subst, inl, inr, arith, mod-lt}
-use Rattle.std.proofs.lemmas.List.Sums.{sum_by-cons}
+use Rattle.std.proofs.Common.{◌≡◌, ℕ, zero, suc, ◌+◌, ◌-◌, ◌*◌, ◌/◌, ◌%◌, ◌<◌, ◌≤◌, cond, nat_eq, List, [], ◌∷◌, ◌++◌, length, slice_index_or, sum_by, Option, Some, None, refl, sym, ap, ap₂, ◌∙◌, subst, inl, inr, arith, mod-lt}
+use Rattle.std.proofs.lemmas.List.Sums.{sum_by-cons, sum_by-le}
 use Rattle.tile_model.specs.declared.Letter.TheVariants.{L, R, X}
 use Rattle.tile_model.specs.Tessellations.{TileKind}
 use Rattle.coincidence.specs.declared.origin.Origin.{Origin}
@@ -80,3 +80,7 @@ pub live_fewer : (t t' : Table) → IsShaped t → IsShaped t' → IsFollowed t.
 live_fewer t t' shaped shaped' followed =
     let less = fewer t.cells.items t'.cells.items followed.count (λ c live. (followed.turns c live).was_live) in
     omega (arith, shaped.live, shaped'.live, less)
+
+-- no more cells are live than there are
+pub live_at_most : (t : Table) → IsShaped t → t.live ≤ length t.cells.items
+live_at_most t shaped = omega (arith, shaped.live, sum_by-le live_weight 1 t.cells.items (λ k d made. one_at_most (slice_index_or t.cells.items k d).turn))

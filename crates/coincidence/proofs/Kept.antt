@@ -22,7 +22,7 @@ use Rattle.coincidence.specs.Tables.{JoinTable, origin_at, kind_of, atlas_of, at
 use Rattle.coincidence.specs.Joined.{IsKept, IsNameOf, IsTable, HasRenamed}
 use Rattle.coincidence.proofs.Numbers.{zero_or_more, not_zero, divides_on}
 use Rattle.coincidence.proofs.Names.{named, name_live, name_settled, name_name, name_cell}
-use Rattle.coincidence.proofs.Origins.{dart_type}
+use Rattle.coincidence.proofs.Origins.{dart_type, walk_first}
 use Rattle.coincidence.proofs.Settled.{live_made, taken_some, unpack_pack, named_back}
 use Rattle.coincidence.proofs.Merges.{name_sound}
 use Rattle.coincidence.proofs.Periods.{one_equal, one_back, one_on, one_behind, at_zero, period_mod}
@@ -172,8 +172,10 @@ module _ (kinds : List TileKind) (origins : List Origin) (t : Table) (kept : IsK
     valid = kept.valid;
     some = omega (arith, kept.count, kept.shaped.some);
     few = omega (arith, kept.count, kept.shaped.few);
+    count = kept.count;
     kinds_there = kept.kinds_there;
     live_made = λ c live. let made = live_made t.cells.items c live in omega (arith, made, kept.count);
+    first_walk = walk_first origins;
     first_live = elim (zero_or_more (turn_at t.cells.items 0)) [
       | inl gone ↦ absurd (let before = kept.shaped.ordered 0 gone in omega (arith, before))
       | inr live ↦ live

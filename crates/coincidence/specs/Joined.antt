@@ -36,8 +36,10 @@ pub record IsTable (t : JoinTable) : Type 0 where
   pub valid : IsValid t.kinds
   pub some : 0 < length t.origins
   pub few : length t.origins ≤ 1000000
+  pub count : length t.cells ≡ length t.origins
   pub kinds_there : (c : ℕ) → c < length t.origins → kind_of t.origins c < length t.kinds
   pub live_made : (c : ℕ) → IsLive t.cells c → c < length t.origins
+  pub first_walk : (atlas t).walk_to 0 ≡ []
   pub first_live : IsLive t.cells 0
   pub turns : (c : ℕ) → IsLive t.cells c → (kind_at t.kinds (kind_of t.origins c)).sides % turn_at t.cells c ≡ 0
   pub named : (d : ℕ × ℕ) → IsNameOf t d (name t.cells d)

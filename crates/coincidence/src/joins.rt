@@ -1,5 +1,5 @@
 //! `Joins`: cells of a tessellation, made one by one across darts, and the darts known to be joined.
-ghost use Rattle.std.specs.Prelude.{◌≡◌, ℕ, ◌+◌, ◌<◌, ◌≤◌, ◌↔◌, ◌≢◌, length, Option, None, Some, IsTrue, IfOk, OnOk, OnErr};
+ghost use Rattle.std.specs.Prelude.{◌≡◌, ℕ, ◌+◌, ◌<◌, ◌≤◌, ◌↔◌, ◌≢◌, length, Option, None, Some, IsTrue, IfOk, IfSome, OnOk, OnErr};
 ghost use Rattle.tile_model.specs.Tessellations.{IsType, cross, sides};
 ghost use Rattle.coincidence.specs.Cells.{IsLive, turn_at, cell_at, live_count, name};
 ghost use Rattle.coincidence.specs.Atlases.{LieAcross};
@@ -42,7 +42,7 @@ impl<'t> Joins<'t> {
         ensures first { IfOk result (IsFirst t.now kind) }
         ensures table { IfOk result (λ j. IsTable j) }
     {
-        let start = t.start(kind);
+        let tile = &t.all_kinds()[kind as usize];
         let mut origins = Vec::new(alloc);
         origins.push(Origin {
             kind,
@@ -50,7 +50,7 @@ impl<'t> Joins<'t> {
             across: 0,
         })?;
         let mut table = Table::empty(alloc);
-        table.extend(t.sides(start))?;
+        table.extend(tile.sides)?;
         Ok(Joins {
             tessellation: t,
             origins,
@@ -161,7 +161,8 @@ impl<'t> Joins<'t> {
 
     /// The dart that a dart is joined to; None exactly where nothing is joined there. A dart that is not live is joined to none.
     pub fn joined(&self, d: Dart) -> Option<Dart>
-        ensures { result ≡ joined_to self.now d }
+        ensures value { result ≡ joined_to self.now d }
+        ensures side { IfSome result (λ e. e.1 < 64) }
     {
         let Some(x) = self.table.cells.get(d.cell as usize) else {
             return None;

@@ -3,9 +3,11 @@ use Rattle.std.specs.Prelude.{◌≡◌, ℕ, zero, suc, ◌+◌, ◌<◌, ◌�
 use Rattle.tile_model.specs.Tessellations.{TileKind, kind_at, valence}
 use Rattle.coincidence.specs.Cells.{turn_at, IsLive, name, live_count}
 use Rattle.coincidence.specs.Tables.{JoinTable, joined_to, type_at, kind_of}
+use Rattle.coincidence.specs.Joined.{IsTable}
 use Rattle.region_grower.specs.declared.region.Grown.{Grown}
 use Rattle.region_grower.specs.declared.region.Grown.TheVariants.{Layer, Full, Closed}
 use Rattle.region_grower.specs.Ways.{IsWay, IsWithin, IsRadius, AllWithin, IsDart, HasOpen, IsJoined, AllJoined}
+use Rattle.region_grower.specs.Tiles.{HasTiles}
 use Rattle.region_grower.specs.Corners.{rounds, valence_at, AllClosed}
 
 -- a region: its cells and joins, the radius of each cell, and the number of its last layer
@@ -24,12 +26,12 @@ total zero f = 0
 total (suc n) f = total n f + f n
 
 -- what is left of a dart: two of one that is not joined, one of one that is, nothing of a side that is another dart
+abbrev pub left_of_join : Option (ℕ × ℕ) → ℕ
+left_of_join None = 2
+left_of_join (Some e) = 1
+
 abbrev pub left_at : JoinTable → ℕ → ℕ → ℕ
 left_at t c i = if nat_lt i (turn_at t.cells c) then left_of_join (joined_to t (c, i)) else 0
-  where
-    left_of_join : Option (ℕ × ℕ) → ℕ
-    left_of_join None = 2
-    left_of_join (Some e) = 1
 
 -- what is left of all darts: a number that falls where darts are joined and cells are renamed
 abbrev pub unfinished : JoinTable → ℕ
@@ -53,6 +55,7 @@ pub record HasNear (t : JoinTable) (n : ℕ) : Type 0 where
 -- A layer: every live cell at distance below r has all its sides joined, some dart of a live cell is not joined, and every corner is closed.
 pub record IsLayer (before after : RegionState) (r : ℕ) : Type 0 where
   pub number : r ≡ before.layers + 1
+  pub below : r < live_count after.table.cells
   pub layers : after.layers ≡ r
   pub inner : (c n : ℕ) → IsLive after.table.cells c → IsRadius after.table c n → n < r → AllJoined after.table c
   pub opened : (c : ℕ) × HasOpen after.table c
@@ -73,6 +76,7 @@ pub record IsClosedRegion (after : RegionState) (n : ℕ) : Type 0 where
   pub number : n ≡ live_count after.table.cells
   pub joined : (c : ℕ) → IsLive after.table.cells c → AllJoined after.table c
   pub corners : AllClosed after.table
+  pub tiles : HasTiles after.table.kinds (kind_of after.table.origins 0, 0) n
 
 abbrev pub IsGrown : RegionState → RegionState → ℕ → Grown → Type 0
 IsGrown before after most (Layer r) = IsLayer before after r
@@ -81,11 +85,15 @@ IsGrown before after most (Closed n) = IsClosedRegion after n
 
 -- No radius is less than the least number of crossings: so many crossings, where they are fewer than a million, lead to the cell.
 abbrev pub AreReached : JoinTable → List ℕ → Type 0
-AreReached t radii = (c : ℕ) → slice_index radii c < 1000000 → IsWay t (slice_index radii c) c
+AreReached t radii = (c : ℕ) → c < length radii → slice_index radii c < 1000000 → IsWay t (slice_index radii c) c
 
--- across each dart of a cell the radius is at most one more
+-- across a dart the radius is at most one more
+abbrev pub IsRelaxedAt : JoinTable → List ℕ → ℕ × ℕ → Type 0
+IsRelaxedAt t radii d = (e : ℕ × ℕ) → joined_to t d ≡ Some e → slice_index radii d.0 < 1000000 → slice_index radii e.0 ≤ slice_index radii d.0 + 1
+
+-- so it is across each dart of a cell
 abbrev pub IsRelaxed : JoinTable → List ℕ → ℕ → Type 0
-IsRelaxed t radii c = (i : ℕ) (e : ℕ × ℕ) → joined_to t (c, i) ≡ Some e → slice_index radii c < 1000000 → slice_index radii e.0 ≤ slice_index radii c + 1
+IsRelaxed t radii c = (i : ℕ) → i < turn_at t.cells c → IsRelaxedAt t radii (c, i)
 
 -- Cells were made across darts at a distance of at most n: all else stays.
 pub record HasMadeOn (t t' : JoinTable) (n : ℕ) : Type 0 where
@@ -94,3 +102,11 @@ pub record HasMadeOn (t t' : JoinTable) (n : ℕ) : Type 0 where
   pub turns : (c : ℕ) → c < length t.origins → turn_at t'.cells c ≡ turn_at t.cells c
   pub within : (m c : ℕ) → IsWithin t m c → IsWithin t' m c
   pub bounded : AllWithin t (n + 1) → AllWithin t' (n + 1)
+
+-- What a region keeps between calls: its radii are exact, and no live cell lies farther away than one more than the layers.
+pub record IsRegion (r : RegionState) : Type 0 where
+  pub table : IsTable r.table
+  pub long : length r.table.origins ≤ length r.radii
+  pub radii : AreRadii r.table r.radii
+  pub within : AllWithin r.table (r.layers + 1)
+  pub few : r.layers < 1000000

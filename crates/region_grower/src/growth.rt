@@ -1,12 +1,12 @@
 // What is left to do for a layer, and the cells that are made for it.
-ghost use Rattle.std.specs.Prelude.{◌≡◌, ℕ, ◌+◌, ◌<◌, ◌≤◌, length, slice_index, Option, None, IfNone, IfSome, IfOk, OnOk, vec_len};
+ghost use Rattle.std.specs.Prelude.{◌≡◌, ◌≢◌, ℕ, ◌+◌, ◌<◌, ◌≤◌, length, slice_index, Option, None, IfNone, IfSome, IfOk, OnOk, vec_len};
 ghost use Rattle.coincidence.specs.Cells.{IsLive, turn_at};
 ghost use Rattle.coincidence.specs.Tables.{JoinTable, joined_to};
 ghost use Rattle.coincidence.specs.Joined.{IsTable};
 ghost use Rattle.region_grower.specs.Ways.{IsWithin, AllWithin, IsDart, IsJoined, AllJoined};
 ghost use Rattle.region_grower.specs.Corners.{AllClosed};
 ghost use Rattle.region_grower.specs.Regions.{AreRadii, HasMadeOn};
-ghost use Rattle.region_grower.specs.Answers.{IsAnswer, IsOpenDart, IsSettled};
+ghost use Rattle.region_grower.specs.Answers.{IsAnswer, IsOpenDart, IsReady};
 
 use crate::corners::close_corners;
 use crate::radii::{FAR, measure};
@@ -138,4 +138,79 @@ fn make_round(joins: &mut Joins, radii: &mut Vec<u32>, cell: u32, within: u32, m
         make_side(joins, radii, Dart { cell, side }, within, most)?;
     }
     Ok(())
+}
+
+/// Makes a cell across each side of a cell that is not joined, if the cell is live and near.
+fn make_near(joins: &mut Joins, radii: &mut Vec<u32>, cell: u32, within: u32, most: u32) -> Result<(), AllocError>
+    requires table { IsTable joins.old }
+    requires near { IsLive joins.old.cells cell → slice_index radii.old.items cell ≤ within → IsWithin joins.old within cell }
+    requires most { most ≤ 1000000 }
+    requires made { length joins.old.origins ≤ most }
+    requires long { length joins.old.origins ≤ vec_len radii.old }
+    ensures table { IsTable joins.new }
+    ensures long { length joins.new.origins ≤ vec_len radii.new }
+    ensures made { HasMadeOn joins.old joins.new within }
+    ensures at_most { length joins.new.origins ≤ most }
+    ensures radii { (c : ℕ) → c < vec_len radii.old → slice_index radii.new.items c ≡ slice_index radii.old.items c }
+{
+    if joins.alive(cell) {
+        if (cell as usize) < radii.len() && radii[cell as usize] <= within {
+            return make_round(joins, radii, cell, within, most);
+        }
+    }
+    Ok(())
+}
+
+/// Makes a cell across a dart that is not joined, and then across each other such dart of the cells that are near.
+fn make_cells(joins: &mut Joins, radii: &mut Vec<u32>, d: Dart, within: u32, most: u32) -> Result<(), AllocError>
+    requires ready { IsReady joins.old radii.old.items within }
+    requires opened { IsOpenDart joins.old within d }
+    requires most { most ≤ 1000000 }
+    requires room { length joins.old.origins < most }
+    ensures table { IsTable joins.new }
+    ensures long { length joins.new.origins ≤ vec_len radii.new }
+    ensures made { HasMadeOn joins.old joins.new within }
+    ensures at_most { length joins.new.origins ≤ most }
+    ensures more { OnOk result (length joins.old.origins < length joins.new.origins) }
+{
+    let made = joins.made();
+    make(joins, radii, d, within)?;
+    for cell in 0..made {
+        make_near(joins, radii, cell, within, most)?;
+    }
+    Ok(())
+}
+
+/// Closes all corners and measures the distances anew.
+pub(crate) fn settle(joins: &mut Joins, radii: &mut [u32], within: u32)
+    requires table { IsTable joins.old }
+    requires long { length joins.old.origins ≤ length radii.old }
+    requires bounded { AllWithin joins.old (within + 1) }
+    ensures ready { IsReady joins.new radii.new within }
+    ensures made { joins.new.origins ≡ joins.old.origins }
+    ensures kinds { joins.new.kinds ≡ joins.old.kinds }
+{
+    close_corners(joins);
+    measure(joins, radii);
+}
+
+/// Makes cells, and closes the corners, until there is an answer other than a dart that is open. Out of memory the region is settled.
+pub(crate) fn advance(joins: &mut Joins, radii: &mut Vec<u32>, within: u32, most: u32) -> Result<Answer, AllocError>
+    requires ready { IsReady joins.old radii.old.items within }
+    requires most { most ≤ 1000000 }
+    requires made { length joins.old.origins ≤ most }
+    ensures ready { IsReady joins.new radii.new.items within }
+    ensures answer { IfOk result (IsAnswer joins.new within most) }
+    ensures done { IfOk result (λ a. (d : ℕ × ℕ) → a ≢ Answer.Open d) }
+    ensures at_most { length joins.new.origins ≤ most }
+    ensures kinds { joins.new.kinds ≡ joins.old.kinds }
+{
+    let mut answer = answer_of(joins, radii, within, most);
+    while let Answer::Open(d) = answer {
+        let made = make_cells(joins, radii, d, within, most);
+        settle(joins, radii, within);
+        made?;
+        answer = answer_of(joins, radii, within, most);
+    }
+    Ok(answer)
 }

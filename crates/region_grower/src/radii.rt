@@ -1,11 +1,12 @@
 // The distances of the cells from the first one.
-ghost use Rattle.std.specs.Prelude.{◌≡◌, ℕ, ◌+◌, ◌<◌, ◌≤◌, false, true, length, slice_index, sum, Option, Some};
-ghost use Rattle.coincidence.specs.Tables.{joined_to};
+ghost use Rattle.std.specs.Prelude.{◌≡◌, ℕ, ◌+◌, ◌<◌, ◌≤◌, length, slice_index, Some};
 ghost use Rattle.coincidence.specs.Cells.{IsLive};
+ghost use Rattle.coincidence.specs.Tables.{joined_to};
 ghost use Rattle.coincidence.specs.Joined.{IsTable};
-ghost use Rattle.region_grower.specs.Ways.{IsWay};
-ghost use Rattle.region_grower.specs.Regions.{AreRadii, AreReached, IsRelaxed};
+ghost use Rattle.region_grower.specs.Regions.{AreRadii, IsRelaxed, IsRelaxedAt};
+ghost use Rattle.region_grower.specs.Passes.{HasLowered};
 
+use crate::corners::either;
 use coincidence::{Dart, Joins};
 
 /// The radius of a cell that was not reached yet.
@@ -16,13 +17,7 @@ fn relax_dart(joins: &Joins, radii: &mut [u32], d: Dart) -> bool
     requires table { IsTable joins.now }
     requires long { length joins.now.origins ≤ length radii.old }
     requires live { IsLive joins.now.cells d.0 }
-    requires reached { AreReached joins.now radii.old }
-    ensures reached { AreReached joins.now radii.new }
-    ensures first { slice_index radii.old 0 ≡ 0 → slice_index radii.new 0 ≡ 0 }
-    ensures unchanged { result ≡ false → radii.new ≡ radii.old }
-    ensures falls { result ≡ true → sum radii.new < sum radii.old }
-    ensures relaxed { result ≡ false → (e : ℕ × ℕ) → joined_to joins.now d ≡ Some e → slice_index radii.old d.0 < 1000000
-        → slice_index radii.old e.0 ≤ slice_index radii.old d.0 + 1 }
+    ensures { HasLowered joins.now radii.old radii.new result (λ rs. IsRelaxedAt joins.now rs d) }
 {
     let radius = radii[d.cell as usize];
     if radius < FAR {
@@ -41,18 +36,12 @@ fn relax_cell(joins: &Joins, radii: &mut [u32], cell: u32) -> bool
     requires table { IsTable joins.now }
     requires long { length joins.now.origins ≤ length radii.old }
     requires live { IsLive joins.now.cells cell }
-    requires reached { AreReached joins.now radii.old }
-    ensures reached { AreReached joins.now radii.new }
-    ensures first { slice_index radii.old 0 ≡ 0 → slice_index radii.new 0 ≡ 0 }
-    ensures unchanged { result ≡ false → radii.new ≡ radii.old }
-    ensures falls { result ≡ true → sum radii.new < sum radii.old }
-    ensures relaxed { result ≡ false → IsRelaxed joins.now radii.old cell }
+    ensures { HasLowered joins.now radii.old radii.new result (λ rs. IsRelaxed joins.now rs cell) }
 {
     let mut changed = false;
     for side in 0..joins.turn(cell) {
-        if relax_dart(joins, radii, Dart { cell, side }) {
-            changed = true;
-        }
+        let now = relax_dart(joins, radii, Dart { cell, side });
+        changed = either(changed, now);
     }
     changed
 }
@@ -61,12 +50,7 @@ fn relax_cell(joins: &Joins, radii: &mut [u32], cell: u32) -> bool
 fn relax_live(joins: &Joins, radii: &mut [u32], cell: u32) -> bool
     requires table { IsTable joins.now }
     requires long { length joins.now.origins ≤ length radii.old }
-    requires reached { AreReached joins.now radii.old }
-    ensures reached { AreReached joins.now radii.new }
-    ensures first { slice_index radii.old 0 ≡ 0 → slice_index radii.new 0 ≡ 0 }
-    ensures unchanged { result ≡ false → radii.new ≡ radii.old }
-    ensures falls { result ≡ true → sum radii.new < sum radii.old }
-    ensures relaxed { result ≡ false → IsLive joins.now.cells cell → IsRelaxed joins.now radii.old cell }
+    ensures { HasLowered joins.now radii.old radii.new result (λ rs. IsLive joins.now.cells cell → IsRelaxed joins.now rs cell) }
 {
     if joins.alive(cell) {
         return relax_cell(joins, radii, cell);
@@ -78,18 +62,12 @@ fn relax_live(joins: &Joins, radii: &mut [u32], cell: u32) -> bool
 fn relax_each(joins: &Joins, radii: &mut [u32]) -> bool
     requires table { IsTable joins.now }
     requires long { length joins.now.origins ≤ length radii.old }
-    requires reached { AreReached joins.now radii.old }
-    ensures reached { AreReached joins.now radii.new }
-    ensures first { slice_index radii.old 0 ≡ 0 → slice_index radii.new 0 ≡ 0 }
-    ensures unchanged { result ≡ false → radii.new ≡ radii.old }
-    ensures falls { result ≡ true → sum radii.new < sum radii.old }
-    ensures relaxed { result ≡ false → (c : ℕ) → IsLive joins.now.cells c → IsRelaxed joins.now radii.old c }
+    ensures { HasLowered joins.now radii.old radii.new result (λ rs. (c : ℕ) → IsLive joins.now.cells c → IsRelaxed joins.now rs c) }
 {
     let mut changed = false;
     for cell in 0..joins.made() {
-        if relax_live(joins, radii, cell) {
-            changed = true;
-        }
+        let now = relax_live(joins, radii, cell);
+        changed = either(changed, now);
     }
     changed
 }

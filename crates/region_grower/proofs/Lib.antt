@@ -1,0 +1,10 @@
+pub mod Ways
+pub mod Rounds
+pub mod Left
+pub mod Radii
+pub mod Passes
+pub mod Count
+pub mod Listing
+pub mod Model
+pub mod Tiles
+pub mod Closing
