@@ -1,7 +1,7 @@
 pub mod Ways
 pub mod Rounds
 pub mod Left
-pub mod Radii
+pub mod Measured
 pub mod Passes
 pub mod Count
 pub mod Listing

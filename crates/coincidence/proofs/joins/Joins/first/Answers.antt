@@ -15,7 +15,7 @@ kept c =
     let kinds = c.args.t.now in
     let there : c.args.kind < length c.all_kinds.result.now = subst (λ (ks : List TileKind). c.args.kind < length ks) (sym c.all_kinds.ensures.value) c.requires in
     let x = c.index-all_kinds-kind in
-    let tile : x.result.now ≡ kind_at kinds c.args.kind = get_or_read c.all_kinds.result.now c.args.kind x.result.now there x.ensures no_kind ∙ ap (λ ks. kind_at ks c.args.kind) c.all_kinds.ensures.value in
+    let tile : x.result ≡ kind_at kinds c.args.kind = get_or_read c.all_kinds.result.now c.args.kind x.result there x.is no_kind ∙ ap (λ ks. kind_at ks c.args.kind) c.all_kinds.ensures.value in
     let sides = ap (λ (x : TileKind). x.sides) (c.tile.view_is ∙ tile) in
     let valid : IsValid kinds = c.all_kinds.ensures.valid in
     let origins = c.in_ok-push.ensures.items ∙ ap (λ (os : List Origin). os ++ record { kind = c.args.kind; own = 0; across = 0 } ∷ []) c.new-origins.ensures.items in
