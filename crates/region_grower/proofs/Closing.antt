@@ -60,3 +60,9 @@ module _ (t : JoinTable) (table : IsTable t) (d : ℕ × ℕ) (is_dart : IsDart 
     unchanged = λ e. absurd (cc (e));
     done = λ e. absurd (cc (e));
   }
+
+-- one time more
+pub rounds_more : (t : JoinTable) (d a : ℕ × ℕ) (n : ℕ) (o : Option (ℕ × ℕ)) → rounds n t d ≡ Some a → o ≡ joined_to t (left_of a) → o ≡ rounds (n + 1) t d
+rounds_more t d a n o is over =
+    let next : n + 1 ≡ suc n = omega arith in
+    over ∙ (sym (ap (option_and_then (further t)) is) ∙ ap (λ m. rounds m t d) (sym next))

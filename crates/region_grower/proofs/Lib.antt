@@ -8,3 +8,4 @@ pub mod Listing
 pub mod Model
 pub mod Tiles
 pub mod Closing
+pub mod Starting

@@ -183,14 +183,17 @@ module _ (t : JoinTable) (table : IsTable t) (joined : (d : ℕ × ℕ) → IsDa
   related_place related = related_holds t.kinds (λ u w. place origin u ≡ place origin w) holds related
 
   -- the walk of the dart come to is related to the walk
-  move_walk : (x : Letter) (d : ℕ × ℕ) → IsDart t d → AreRelated t.kinds start (dart_walk t (move x d)) (dart_walk t d ++ x ∷ [])
-  move_walk L d is_dart =
+  left_walk : (d : ℕ × ℕ) → IsDart t d → AreRelated t.kinds start (dart_walk t (move L d)) (dart_walk t d ++ L ∷ [])
+  left_walk d is_dart =
       let w = (atlas t).walk_to d.0 in
       let turned : dart_walk t (left_of d) ≡ dart_walk t d ++ L ∷ [] = ap (λ u. w ++ u) (sym (replicate_more d.1 L)) ∙ sym (append_assoc w (replicate d.1 L) (L ∷ [])) in
       related_on t.kinds (related_back t.kinds (table.related_name (left_of d)).related) (related_equal t.kinds turned)
+
+  move_walk : (x : Letter) (d : ℕ × ℕ) → IsDart t d → AreRelated t.kinds start (dart_walk t (move x d)) (dart_walk t d ++ x ∷ [])
+  move_walk L d is_dart = left_walk d is_dart
   move_walk R d is_dart =
       let f = move R d in
-      let back = move_walk L f (move_dart R d is_dart) in
+      let back = left_walk f (move_dart R d is_dart) in
       let home : AreRelated t.kinds start (dart_walk t d) (dart_walk t f ++ L ∷ []) = related_on t.kinds (related_equal t.kinds (ap (dart_walk t) (sym (right_left' d is_dart)))) back in
       let undone : AreRelated t.kinds start (dart_walk t f ++ L ∷ R ∷ []) (dart_walk t f) = related_on t.kinds (related_before t.kinds (dart_walk t f) (loop_empty t.kinds left_and_right)) (related_equal t.kinds (append-nil (dart_walk t f))) in
       related_back t.kinds (related_on t.kinds (related_behind t.kinds (R ∷ []) home) (related_on t.kinds (related_equal t.kinds (append_assoc (dart_walk t f) (L ∷ []) (R ∷ []))) undone))

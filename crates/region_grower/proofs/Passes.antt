@@ -33,7 +33,7 @@ passed_on {D} {E} {F} t t' t'' false b both one two =
     }
 
 pub passed_as : {D E : JoinTable → Type 0} (t t' : JoinTable) (a : Bool) → (D t → E t) → HasPassed t t' a D → HasPassed t t' a E
-passed_as t t' a as h = record { table = h.table; moved = h.moved; falls = h.falls; unchanged = h.unchanged; done = λ e. as (h.done e) }
+passed_as t t' a on h = record { table = h.table; moved = h.moved; falls = h.falls; unchanged = h.unchanged; done = λ e. on (h.done e) }
 
 pub lowered_none : {D : List ℕ → Type 0} (t : JoinTable) (radii : List ℕ) → D radii → HasLowered t radii radii false D
 lowered_none t radii done = record { long = refl; reached = λ r. r; first = λ z. z; falls = λ e. absurd (cc (e)); unchanged = λ e. refl; done = λ e. done }

@@ -29,6 +29,6 @@ IsAnswer t n most (Open d) = IsOpenDart t n d × (length t.origins < most)
 pub record IsReady (t : JoinTable) (radii : List ℕ) (n : ℕ) : Type 0 where
   pub table : IsTable t
   pub long : length t.origins ≤ length radii
-  pub radii : AreRadii t radii
+  pub measured : AreRadii t radii
   pub corners : AllClosed t
   pub within : AllWithin t (n + 1)
