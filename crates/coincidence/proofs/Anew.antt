@@ -1,18 +1,18 @@
 -- What waits in a slot is joined anew.
-use Rattle.std.proofs.Common.{◌≡◌, ℕ, ◌+◌, ◌*◌, ◌/◌, ◌%◌, ◌<◌, ◌≤◌, ◌⊎◌, List, [], ◌∷◌, ◌++◌, length, refl, sym, ap, ◌∙◌, subst, inl, inr, arith}
+use Rattle.std.proofs.Common.{◌≡◌, ℕ, ◌+◌, ◌*◌, ◌/◌, ◌%◌, ◌<◌, ◌≤◌, ◌⊎◌, List, [], ◌∷◌, sym, ap, ◌∙◌, subst, inl, inr, arith}
 use Rattle.std.proofs.lemmas.Bool.{cases_eq}
-use Rattle.tile_model.specs.declared.Letter.TheVariants.{L, X}
+use Rattle.tile_model.specs.declared.Letter.TheVariants.{X}
 use Rattle.coincidence.specs.declared.table.Cell.{Cell}
 use Rattle.coincidence.specs.declared.table.Table.{Table}
 use Rattle.coincidence.specs.Darts.{nowhere, pack, unpack, slot_at, IsTaken}
-use Rattle.coincidence.specs.Cells.{turn_at, IsOrdered, name}
+use Rattle.coincidence.specs.Cells.{name}
 use Rattle.coincidence.specs.Atlases.{Atlas, AreOne, walk_of, LieAcross, IsSound}
 use Rattle.coincidence.specs.Followed.{AreNamed, IsFollowed}
-use Rattle.coincidence.specs.Pending.{IsChained, IsPending, AreCovered, IsShaped, HasMoved, HasUnchained, HasSettled, work}
+use Rattle.coincidence.specs.Pending.{IsPending, AreCovered, IsShaped, HasMoved, HasUnchained, HasSettled, work}
 use Rattle.coincidence.proofs.Settled.{unpack_name, named_back}
 use Rattle.coincidence.proofs.Moves.{moved_same, followed_on}
 use Rattle.coincidence.proofs.Merges.{name_sound}
-use Rattle.coincidence.proofs.Periods.{one_equal, one_back, one_on, one_behind}
+use Rattle.coincidence.proofs.Periods.{one_back, one_on, one_behind}
 
 -- a slot that is empty is not pending, so that one side less is covered
 pub covered_less : (cells : List Cell) (slots slots' : List ℕ) (dart : ℕ) → (IsPending cells slots' dart → ⊥) → ((n : ℕ) → IsTaken slots' n → IsTaken slots n) → AreCovered cells slots (dart / 64) (dart % 64) → AreCovered cells slots' (dart / 64) (dart % 64 + 1)
@@ -29,12 +29,12 @@ covered_less cells slots slots' dart not_pending still covered n pending = elim 
 
 -- on the way over: before, with the two slots emptied, and after
 module _ (t t' t'' : Table) (dart over a b : ℕ) (shaped : IsShaped t) (pending : IsPending t.cells.items t.slots.items dart) (is : over ≡ slot_at t.slots.items dart)
-  (cells_are : t'.cells ≡ t.cells) (empty : slot_at t'.slots.items dart ≡ nowhere)
-  (still : (n : ℕ) → IsTaken t'.slots.items n → IsTaken t.slots.items n × (slot_at t'.slots.items n ≡ slot_at t.slots.items n))
-  (only : (n : ℕ) → IsTaken t.slots.items n → (n ≡ dart) ⊎ ((n ≡ over) ⊎ IsTaken t'.slots.items n))
-  (a_is : a ≡ pack (name t'.cells.items (unpack dart))) (b_is : b ≡ pack (name t'.cells.items (unpack over)))
-  (moved : HasMoved t' t'') (named : AreNamed t''.cells.items t''.slots.items (name t''.cells.items (unpack a)) (name t''.cells.items (unpack b)))
-  (sound_on : (atlas : Atlas) → IsSound atlas t'.cells.items t'.slots.items → LieAcross atlas (unpack a) (unpack b) → IsSound atlas t''.cells.items t''.slots.items) where
+    (cells_are : t'.cells ≡ t.cells) (empty : slot_at t'.slots.items dart ≡ nowhere)
+    (still : (n : ℕ) → IsTaken t'.slots.items n → IsTaken t.slots.items n × (slot_at t'.slots.items n ≡ slot_at t.slots.items n))
+    (only : (n : ℕ) → IsTaken t.slots.items n → (n ≡ dart) ⊎ ((n ≡ over) ⊎ IsTaken t'.slots.items n))
+    (a_is : a ≡ pack (name t'.cells.items (unpack dart))) (b_is : b ≡ pack (name t'.cells.items (unpack over)))
+    (moved : HasMoved t' t'') (named : AreNamed t''.cells.items t''.slots.items (name t''.cells.items (unpack a)) (name t''.cells.items (unpack b)))
+    (sound_on : (atlas : Atlas) → IsSound atlas t'.cells.items t'.slots.items → LieAcross atlas (unpack a) (unpack b) → IsSound atlas t''.cells.items t''.slots.items) where
   abbrev cells : List Cell
   cells = t.cells.items
 
@@ -55,8 +55,8 @@ module _ (t t' t'' : Table) (dart over a b : ℕ) (shaped : IsShaped t) (pending
     | inl e ↦ renamed p q (sym (ap (λ n. name cells (unpack n)) e) ∙ was.here) (ap (λ n. name cells (unpack n)) (is ∙ ap (slot_at t.slots.items) (sym e)) ∙ was.across)
     | inr rest ↦ elim rest [
       | inl e ↦
-        let back : slot_at t.slots.items was.at ≡ dart = ap (slot_at t.slots.items) (e ∙ is) ∙ shaped.back dart pending.taken in
-        named_back t'' (name t''.cells.items q) (name t''.cells.items p) moved.shaped (renamed q p (ap (λ n. name cells (unpack n)) (sym back) ∙ was.across) (ap (λ n. name cells (unpack n)) (sym e) ∙ was.here))
+          let back : slot_at t.slots.items was.at ≡ dart = ap (slot_at t.slots.items) (e ∙ is) ∙ shaped.back dart pending.taken in
+          named_back t'' (name t''.cells.items q) (name t''.cells.items p) moved.shaped (renamed q p (ap (λ n. name cells (unpack n)) (sym back) ∙ was.across) (ap (λ n. name cells (unpack n)) (sym e) ∙ was.here))
       | inr taken ↦ followed'.kept p q (record { at = was.at; taken = taken; here = was.here; across = ap (λ n. name cells (unpack n)) (still was.at taken).1 ∙ was.across })
     ]
   ]

@@ -1,14 +1,12 @@
 -- A call of `join`: both darts are named, and what the table does with their names.
-use Rattle.std.proofs.Common.{◌≡◌, ℕ, zero, suc, ◌+◌, ◌-◌, ◌*◌, ◌/◌, ◌%◌, ◌<◌, ◌≤◌, cond, nat_eq, List, [], ◌∷◌, ◌++◌, length, slice_index_or, sum_by, Option, Some, None, refl, sym, ap, ap₂, ◌∙◌, subst, inl, inr, arith, mod-lt}
+use Rattle.std.proofs.Common.{◌≡◌, ℕ, suc, ◌%◌, ◌<◌, ◌≤◌, cond, nat_eq, List, [], ◌∷◌, length, slice_index_or, Some, sym, ap, ◌∙◌, subst, inl, inr, arith, mod-lt}
 use Rattle.std.proofs.lemmas.List.Sums.{sum_by-cons, sum_by-le}
-use Rattle.tile_model.specs.declared.Letter.TheVariants.{L, R, X}
-use Rattle.tile_model.specs.Tessellations.{TileKind}
-use Rattle.coincidence.specs.declared.origin.Origin.{Origin}
+use Rattle.tile_model.specs.declared.Letter.TheVariants.{X}
 use Rattle.coincidence.specs.declared.table.Cell.{Cell}
 use Rattle.coincidence.specs.declared.table.Table.{Table}
-use Rattle.coincidence.specs.Darts.{nowhere, pack, unpack, slot_at, IsTaken}
-use Rattle.coincidence.specs.Cells.{cell_at, turn_at, IsLive, live_count, name}
-use Rattle.coincidence.specs.Atlases.{Atlas, AreOne, walk_of, LieAcross, IsSound}
+use Rattle.coincidence.specs.Darts.{pack, unpack}
+use Rattle.coincidence.specs.Cells.{turn_at, IsLive, live_count, name}
+use Rattle.coincidence.specs.Atlases.{Atlas, LieAcross, IsSound}
 use Rattle.coincidence.specs.Followed.{AreNamed, IsFollowed, IsSettled}
 use Rattle.coincidence.specs.Pending.{IsShaped, IsQuiet}
 use Rattle.coincidence.specs.Tables.{joined_in}
@@ -63,8 +61,8 @@ live_less : (x y : Cell) → (0 < y.turn → 0 < x.turn) → live_weight y ≤ l
 live_less x y on = elim (zero_or_more y.turn) [
   | inl e ↦ omega (arith, ap one_unless e)
   | inr more ↦
-    let one : live_weight x ≡ 1 = ap (λ b. cond b 0 1) (not_zero x.turn (on more)) in
-    omega (arith, one, one_at_most y.turn)
+      let one : live_weight x ≡ 1 = ap (λ b. cond b 0 1) (not_zero x.turn (on more)) in
+      omega (arith, one, one_at_most y.turn)
 ]
 
 fewer : (xs ys : List Cell) → length ys ≡ length xs → ((c : ℕ) → IsLive ys c → IsLive xs c) → live_count ys ≤ live_count xs

@@ -1,16 +1,15 @@
 -- A live cell is added to a table, of whose sides none is joined.
-use Rattle.std.proofs.Common.{◌≡◌, ℕ, zero, suc, ◌+◌, ◌-◌, ◌*◌, ◌/◌, ◌%◌, ◌<◌, ◌≤◌, cond, nat_eq, List, [], ◌∷◌, ◌++◌, length, replicate, sum_by, refl, sym, ap, ap₂, ◌∙◌, subst, inl, inr, arith}
+use Rattle.std.proofs.Common.{◌≡◌, ℕ, ◌+◌, ◌*◌, ◌/◌, ◌%◌, ◌<◌, ◌≤◌, cond, nat_eq, List, [], ◌∷◌, length, refl, sym, ap, ◌∙◌, subst, inl, inr, arith}
 use Rattle.std.proofs.lemmas.Bool.{cases_lt, cases_eq}
 use Rattle.std.proofs.lemmas.List.{get_or_append_left, get_or_push, get_or_past, length_push}
 use Rattle.std.proofs.lemmas.List.Sums.{sum_by_push}
 use Rattle.coincidence.specs.declared.table.Cell.{Cell}
 use Rattle.coincidence.specs.declared.table.Table.{Table}
-use Rattle.coincidence.specs.Darts.{nowhere, pack, unpack, slot_at, IsTaken}
+use Rattle.coincidence.specs.Darts.{nowhere, unpack, slot_at, IsTaken}
 use Rattle.coincidence.specs.Cells.{no_cell, cell_at, turn_at, into_at, shift_at, IsLive, IsOrdered, live_count, name}
 use Rattle.coincidence.specs.Atlases.{Atlas, AreOne, walk_of, HasPeriod, LieAcross, IsSound}
-use Rattle.coincidence.specs.Followed.{AreNamed, IsSettled}
-use Rattle.coincidence.specs.Pending.{last_link, next_at, IsChained, HasChain, IsChain, ends, IsAmong, IsPending, IsQuiet, IsShaped, fresh_cell, IsExtended}
-use Rattle.coincidence.proofs.Numbers.{zero_or_more, not_zero}
+use Rattle.coincidence.specs.Pending.{last_link, HasChain, IsChain, ends, IsAmong, IsQuiet, IsShaped, fresh_cell, IsExtended}
+use Rattle.coincidence.proofs.Numbers.{not_zero}
 use Rattle.coincidence.proofs.Names.{name_renamed, name_live, by_names}
 use Rattle.coincidence.proofs.Chains.{chain_grows, chain_made}
 use Rattle.coincidence.proofs.Settled.{taken_made}
@@ -138,12 +137,12 @@ module _ (t t' : Table) (turn : ℕ) (may : MayGrow t) (extended : IsExtended t 
   grown_names ordered =
       by_names cells ordered (λ c i. c < new → name cells' (c, i) ≡ name cells (c, i))
       (λ c i live made.
-        let same = ap (λ (x : Cell). x.turn) (grown_other c (λ e. omega (arith, made, e))) in
-        name_live cells' grown_ordered c i (subst (λ n. 0 < n) (sym same) live) ∙ (ap (λ n. (c, i % n)) same ∙ sym (name_live cells ordered c i live)))
+      let same = ap (λ (x : Cell). x.turn) (grown_other c (λ e. omega (arith, made, e))) in
+      name_live cells' grown_ordered c i (subst (λ n. 0 < n) (sym same) live) ∙ (ap (λ n. (c, i % n)) same ∙ sym (name_live cells ordered c i live)))
       (λ c i gone rest made.
-        let same = grown_other c (λ e. omega (arith, made, e)) in
-        let before = ordered c gone in
-        name_renamed cells' grown_ordered c i (ap (λ (x : Cell). x.turn) same ∙ gone) ∙ (ap (λ (x : Cell). name cells' (x.into, i + x.shift)) same ∙ (rest (omega (arith, before, made)) ∙ sym (name_renamed cells ordered c i gone))))
+      let same = grown_other c (λ e. omega (arith, made, e)) in
+      let before = ordered c gone in
+      name_renamed cells' grown_ordered c i (ap (λ (x : Cell). x.turn) same ∙ gone) ∙ (ap (λ (x : Cell). name cells' (x.into, i + x.shift)) same ∙ (rest (omega (arith, before, made)) ∙ sym (name_renamed cells ordered c i gone))))
 
   -- the new cell's darts are their own names
   pub grown_new_live : IsLive t'.cells.items (length t.cells.items)
@@ -156,8 +155,8 @@ module _ (t t' : Table) (turn : ℕ) (may : MayGrow t) (extended : IsExtended t 
     renamed = by_cell (λ c x. x.turn ≡ 0 → AreOne atlas (atlas.walk_to c) (walk_of atlas (x.into, x.shift))) (λ gone. absurd (omega (arith, gone, some))) (λ c away gone. elim (cases_lt c new) [
       | inl made ↦ renamed c made gone
       | inr after ↦
-        let none = get_or_past cells c no_cell after in
-        subst (λ (x : Cell). AreOne atlas (atlas.walk_to c) (walk_of atlas (x.into, x.shift))) (sym none) (past c (omega (arith, after, away)))
+          let none = get_or_past cells c no_cell after in
+          subst (λ (x : Cell). AreOne atlas (atlas.walk_to c) (walk_of atlas (x.into, x.shift))) (sym none) (past c (omega (arith, after, away)))
     ]);
     turned = by_cell (λ c x. 0 < x.turn → HasPeriod atlas c x.turn) (λ _. here) (λ c away live. elim (cases_lt c new) [
       | inl made ↦ turned c made live

@@ -1,5 +1,5 @@
 -- A live cell whose turn falls: it folds, or becomes an earlier cell.
-use Rattle.std.proofs.Common.{◌≡◌, ℕ, zero, suc, ◌+◌, ◌-◌, ◌*◌, ◌/◌, ◌%◌, ◌<◌, ◌≤◌, ◌⊎◌, Bool, true, false, cond, nat_eq, List, length, get_or, sum_by, refl, sym, ap, ap₂, ◌∙◌, subst, inl, inr, arith, get_or-set_same, get_or-set_other}
+use Rattle.std.proofs.Common.{◌≡◌, ℕ, ◌+◌, ◌-◌, ◌*◌, ◌/◌, ◌%◌, ◌<◌, ◌≤◌, Bool, true, false, cond, nat_eq, List, length, sym, ap, ap₂, ◌∙◌, subst, inl, inr, arith, get_or-set_same, get_or-set_other}
 use Rattle.std.proofs.lemmas.List.{length-set}
 use Rattle.std.proofs.lemmas.List.Sums.{sum_by-set, get_or-le-sum_by}
 use Rattle.std.proofs.lemmas.Bool.{cases_eq, eq-eqb, ne_eqb}
@@ -11,7 +11,7 @@ use Rattle.coincidence.specs.Darts.{nowhere, unpack, slot_at, IsTaken}
 use Rattle.coincidence.specs.Cells.{no_cell, cell_at, turn_at, into_at, shift_at, IsLive, IsOrdered, live_count, name}
 use Rattle.coincidence.specs.Atlases.{Atlas, AreOne, walk_of, HasPeriod, LieAcross, IsSound, AllowsFall}
 use Rattle.coincidence.specs.Followed.{AreNamed, HasFallen, IsFollowed}
-use Rattle.coincidence.specs.Pending.{last_link, next_at, IsChained, HasChain, IsPending, AreCovered, IsShaped, weight, work, written_cell, written_head, MayFall, HasMoved}
+use Rattle.coincidence.specs.Pending.{next_at, IsChained, HasChain, AreCovered, IsShaped, weight, work, written_cell, written_head, MayFall, HasMoved}
 use Rattle.coincidence.proofs.Numbers.{zero_or_more, not_zero, mod_mod, mod_shift_mod}
 use Rattle.coincidence.proofs.Names.{name_renamed, name_live, Respects, names_compose}
 use Rattle.coincidence.proofs.Chains.{chain_stays, chain_put, head_some}
@@ -39,10 +39,10 @@ live_some t c shaped made live =
     omega (arith, shaped.live, one, get_or-le-sum_by live_weight t.cells.items c no_cell made)
 
 module _ (t t' : Table) (c turn into shift : ℕ) (shaped : IsShaped t) (may : MayFall t.cells.items c turn into shift)
-  (is : t'.cells.items ≡ set t.cells.items c (written_cell (cell_at t.cells.items c) turn into shift t.head))
-  (head_is : t'.head ≡ written_head (cell_at t.cells.items c) c t.head)
-  (live_is : t'.live ≡ cond (nat_eq turn 0) (t.live - 1) t.live)
-  (slots_are : t'.slots ≡ t.slots) where
+    (is : t'.cells.items ≡ set t.cells.items c (written_cell (cell_at t.cells.items c) turn into shift t.head))
+    (head_is : t'.head ≡ written_head (cell_at t.cells.items c) c t.head)
+    (live_is : t'.live ≡ cond (nat_eq turn 0) (t.live - 1) t.live)
+    (slots_are : t'.slots ≡ t.slots) where
   abbrev cells : List Cell
   cells = t.cells.items
 
@@ -77,30 +77,30 @@ module _ (t t' : Table) (c turn into shift : ℕ) (shaped : IsShaped t) (may : M
   falls_turns : (x : ℕ) → IsLive cells' x → HasFallen cells cells' x
   falls_turns x live = elim (cases_eq x c) [
     | inl e ↦
-      let some : 0 < turn = subst (λ n. 0 < n) here_turn (subst (IsLive cells') e live) in
-      subst (HasFallen cells cells') (sym e) (record { was_live = may.live; divides = subst (λ n. turn_at cells c % n ≡ 0) (sym here_turn) (may.divides some) })
+        let some : 0 < turn = subst (λ n. 0 < n) here_turn (subst (IsLive cells') e live) in
+        subst (HasFallen cells cells') (sym e) (record { was_live = may.live; divides = subst (λ n. turn_at cells c % n ≡ 0) (sym here_turn) (may.divides some) })
     | inr away ↦
-      let same = other_turn x away in
-      record { was_live = subst (λ n. 0 < n) same live; divides = subst (λ n. turn_at cells x % n ≡ 0) (sym same) (mod_self (turn_at cells x)) }
+        let same = other_turn x away in
+        record { was_live = subst (λ n. 0 < n) same live; divides = subst (λ n. turn_at cells x % n ≡ 0) (sym same) (mod_self (turn_at cells x)) }
   ]
 
   falls_ordered : IsOrdered cells'
   falls_ordered x gone = elim (cases_eq x c) [
     | inl e ↦
-      let none : turn ≡ 0 = sym here_turn ∙ (ap (turn_at cells') (sym e) ∙ gone) in
-      let at : into_at cells' x ≡ into = ap (into_at cells') e ∙ ap (λ (y : Cell). y.into) here in
-      let before = may.earlier none in
-      omega (arith, at, before, e)
+        let none : turn ≡ 0 = sym here_turn ∙ (ap (turn_at cells') (sym e) ∙ gone) in
+        let at : into_at cells' x ≡ into = ap (into_at cells') e ∙ ap (λ (y : Cell). y.into) here in
+        let before = may.earlier none in
+        omega (arith, at, before, e)
     | inr away ↦
-      let before = shaped.ordered x (sym (other_turn x away) ∙ gone) in
-      omega (arith, ap (λ (y : Cell). y.into) (other x away), before)
+        let before = shaped.ordered x (sym (other_turn x away) ∙ gone) in
+        omega (arith, ap (λ (y : Cell). y.into) (other x away), before)
   ]
 
   falls_sides : (x i : ℕ) → IsLive cells x → name cells' (x, i % turn_at cells x) ≡ name cells' (x, i)
   falls_sides x i live = elim (zero_or_more (turn_at cells' x)) [
     | inr stays ↦
-      let fallen = falls_turns x stays in
-      name_live cells' falls_ordered x (i % turn_at cells x) stays ∙ (ap (λ j. (x, j)) (mod_mod i (turn_at cells x) (turn_at cells' x) fallen.divides) ∙ sym (name_live cells' falls_ordered x i stays))
+        let fallen = falls_turns x stays in
+        name_live cells' falls_ordered x (i % turn_at cells x) stays ∙ (ap (λ j. (x, j)) (mod_mod i (turn_at cells x) (turn_at cells' x) fallen.divides) ∙ sym (name_live cells' falls_ordered x i stays))
     | inl gone ↦ elim (cases_eq x c) [
       | inr away ↦ let same = other_turn x away in absurd (omega (arith, same, live, gone))
       | inl e ↦ subst (λ y. name cells' (y, i % turn_at cells y) ≡ name cells' (y, i)) (sym e) (renamed (sym here_turn ∙ (ap (turn_at cells') (sym e) ∙ gone)))
@@ -152,30 +152,30 @@ module _ (t t' : Table) (c turn into shift : ℕ) (shaped : IsShaped t) (may : M
   falls_chain : HasChain cells' t'.head
   falls_chain = elim (cases_eq (next_at cells c) nowhere) [
     | inl e ↦
-      let to : t'.head ≡ c = head_is ∙ ap (λ b. cond b c t.head) (eq-eqb (next_at cells c) nowhere e) in
-      subst (HasChain cells') (sym to) (chain_put cells cells' t.head c long may.made (λ chained. chained e) (head_some cells t.head shaped.few shaped.chain) (here_next true (eq-eqb _ _ e)) other_next shaped.chain)
+        let to : t'.head ≡ c = head_is ∙ ap (λ b. cond b c t.head) (eq-eqb (next_at cells c) nowhere e) in
+        subst (HasChain cells') (sym to) (chain_put cells cells' t.head c long may.made (λ chained. chained e) (head_some cells t.head shaped.few shaped.chain) (here_next true (eq-eqb _ _ e)) other_next shaped.chain)
     | inr chained ↦
-      let to : t'.head ≡ t.head = head_is ∙ ap (λ b. cond b c t.head) (ne_eqb (next_at cells c) nowhere chained) in
-      let same : (x : ℕ) → next_at cells' x ≡ next_at cells x = λ x. elim (cases_eq x c) [
-        | inl e ↦ ap (next_at cells') e ∙ (here_next false (ne_eqb _ _ chained) ∙ ap (next_at cells) (sym e))
-        | inr away ↦ other_next x away
-      ] in
-      subst (HasChain cells') (sym to) (record {
-        chain = shaped.chain.chain;
-        met = chain_stays cells cells' long (λ x among. same x) shaped.chain.met;
-        whole = λ x is_chained. shaped.chain.whole x (λ e. is_chained (same x ∙ e));
-      })
+        let to : t'.head ≡ t.head = head_is ∙ ap (λ b. cond b c t.head) (ne_eqb (next_at cells c) nowhere chained) in
+        let same : (x : ℕ) → next_at cells' x ≡ next_at cells x = λ x. elim (cases_eq x c) [
+          | inl e ↦ ap (next_at cells') e ∙ (here_next false (ne_eqb _ _ chained) ∙ ap (next_at cells) (sym e))
+          | inr away ↦ other_next x away
+        ] in
+        subst (HasChain cells') (sym to) (record {
+          chain = shaped.chain.chain;
+          met = chain_stays cells cells' long (λ x among. same x) shaped.chain.met;
+          whole = λ x is_chained. shaped.chain.whole x (λ e. is_chained (same x ∙ e));
+        })
   ]
 
   pub falls_covered : (b i : ℕ) → AreCovered t.cells.items t.slots.items b i → AreCovered t'.cells.items t'.slots.items b i
   falls_covered b i covered n pending = elim (cases_eq (n / 64) c) [
     | inl e ↦ inl (subst (IsChained cells') (sym e) falls_chained)
     | inr away ↦
-      let same = other_turn (n / 64) away in
-      elim (covered n (record { taken = subst (λ slots. IsTaken slots n) slots_same pending.taken; past = omega (arith, same, pending.past) })) [
-        | inl chained ↦ inl (λ e. chained (sym (other_next (n / 64) away) ∙ e))
-        | inr rest ↦ inr rest
-      ]
+        let same = other_turn (n / 64) away in
+        elim (covered n (record { taken = subst (λ slots. IsTaken slots n) slots_same pending.taken; past = omega (arith, same, pending.past) })) [
+          | inl chained ↦ inl (λ e. chained (sym (other_next (n / 64) away) ∙ e))
+          | inr rest ↦ inr rest
+        ]
   ]
 
   falls_weight : weight made_cell ≤ weight (cell_at cells c)
@@ -195,13 +195,13 @@ module _ (t t' : Table) (c turn into shift : ℕ) (shaped : IsShaped t) (may : M
       let was = shaped.live in
       elim (zero_or_more turn) [
         | inl e ↦
-          let none : live_weight made_cell ≡ 0 = ap (λ n. cond (nat_eq n 0) 0 1) e in
-          let less : t'.live ≡ t.live - 1 = live_is ∙ ap (λ n. cond (nat_eq n 0) (t.live - 1) t.live) e in
-          omega (arith, sums, one, none, less, all, was)
+            let none : live_weight made_cell ≡ 0 = ap (λ n. cond (nat_eq n 0) 0 1) e in
+            let less : t'.live ≡ t.live - 1 = live_is ∙ ap (λ n. cond (nat_eq n 0) (t.live - 1) t.live) e in
+            omega (arith, sums, one, none, less, all, was)
         | inr more ↦
-          let still : live_weight made_cell ≡ 1 = ap (λ b. cond b 0 1) (not_zero turn more) in
-          let same : t'.live ≡ t.live = live_is ∙ ap (λ b. cond b (t.live - 1) t.live) (not_zero turn more) in
-          omega (arith, sums, one, still, same, all, was)
+            let still : live_weight made_cell ≡ 1 = ap (λ b. cond b 0 1) (not_zero turn more) in
+            let same : t'.live ≡ t.live = live_is ∙ ap (λ b. cond b (t.live - 1) t.live) (not_zero turn more) in
+            omega (arith, sums, one, still, same, all, was)
       ]
 
   pub falls_shaped : IsShaped t'
@@ -232,14 +232,14 @@ module _ (t t' : Table) (c turn into shift : ℕ) (shaped : IsShaped t) (may : M
     joined = subst (λ slots. (n : ℕ) → IsTaken slots n → LieAcross atlas (n / 64, n % 64) (slot_at slots n / 64, slot_at slots n % 64)) (sym slots_same) truth.joined;
     renamed = λ x gone. elim (cases_eq x c) [
       | inl e ↦
-        let none : turn ≡ 0 = sym here_turn ∙ (ap (turn_at cells') (sym e) ∙ gone) in
-        subst (λ y. AreOne atlas (atlas.walk_to y) (walk_of atlas (into_at cells' y, shift_at cells' y))) (sym e) (subst (λ (y : Cell). AreOne atlas (atlas.walk_to c) (walk_of atlas (y.into, y.shift))) (sym here) (allows.1 none))
+          let none : turn ≡ 0 = sym here_turn ∙ (ap (turn_at cells') (sym e) ∙ gone) in
+          subst (λ y. AreOne atlas (atlas.walk_to y) (walk_of atlas (into_at cells' y, shift_at cells' y))) (sym e) (subst (λ (y : Cell). AreOne atlas (atlas.walk_to c) (walk_of atlas (y.into, y.shift))) (sym here) (allows.1 none))
       | inr away ↦ subst (λ (y : Cell). AreOne atlas (atlas.walk_to x) (walk_of atlas (y.into, y.shift))) (sym (other x away)) (truth.renamed x (sym (other_turn x away) ∙ gone))
     ];
     turned = λ x live. elim (cases_eq x c) [
       | inl e ↦
-        let some : 0 < turn = subst (λ n. 0 < n) here_turn (subst (IsLive cells') e live) in
-        subst (λ y. HasPeriod atlas y (turn_at cells' y)) (sym e) (subst (HasPeriod atlas c) (sym here_turn) (allows.0 some))
+          let some : 0 < turn = subst (λ n. 0 < n) here_turn (subst (IsLive cells') e live) in
+          subst (λ y. HasPeriod atlas y (turn_at cells' y)) (sym e) (subst (HasPeriod atlas c) (sym here_turn) (allows.0 some))
       | inr away ↦ subst (HasPeriod atlas x) (sym (other_turn x away)) (truth.turned x (subst (λ n. 0 < n) (other_turn x away) live))
     ];
   }

@@ -1,25 +1,22 @@
 -- What a table between calls promises: its joins, read by the darts of live cells.
-use Rattle.std.proofs.Common.{◌≡◌, ℕ, zero, suc, ◌+◌, ◌*◌, ◌/◌, ◌%◌, ◌<◌, ◌≤◌, Bool, true, false, cond, nat_eq, List, [], ◌∷◌, ◌++◌, length, replicate, Option, Some, None, refl, sym, ap, ap₂, ◌∙◌, subst, inl, inr, arith, mod-lt, mod-eq_of_lt, append_assoc}
+use Rattle.std.proofs.Common.{◌≡◌, ℕ, ◌/◌, ◌%◌, ◌<◌, cond, nat_eq, List, [], ◌∷◌, ◌++◌, replicate, Some, None, refl, sym, ap, ◌∙◌, subst, inl, inr, arith, mod-lt, mod-eq_of_lt}
 use Rattle.std.proofs.lemmas.Bool.{cases_eq, cases_lt, eq-eqb, ne_eqb}
-use Rattle.std.proofs.lemmas.List.{append-nil}
-use Rattle.tile_model.specs.declared.Letter.{Letter}
-use Rattle.tile_model.specs.declared.Letter.TheVariants.{L, R, X}
+use Rattle.tile_model.specs.declared.Letter.TheVariants.{L, X}
 use Rattle.tile_model.specs.Tessellations.{TileKind, kind_at, IsType, sides}
-use Rattle.tile_model.specs.Validity.{IsValid}
 use Rattle.tile_model.specs.Walks.{type_of}
-use Rattle.tile_model.specs.Relation.{AreRelated, AreAtSameTile}
+use Rattle.tile_model.specs.Relation.{AreAtSameTile}
 use Rattle.tile_model.proofs.Types.{walk_type}
 use Rattle.tile_model.proofs.SameTile.{turned_full}
 use Rattle.coincidence.specs.declared.origin.Origin.{Origin}
 use Rattle.coincidence.specs.declared.table.Cell.{Cell}
 use Rattle.coincidence.specs.declared.table.Table.{Table}
 use Rattle.coincidence.specs.Darts.{nowhere, pack, unpack, slot_at, IsTaken}
-use Rattle.coincidence.specs.Cells.{turn_at, into_at, shift_at, IsLive, IsOrdered, name}
-use Rattle.coincidence.specs.Atlases.{Atlas, AreOne, walk_of, HasPeriod, LieAcross, IsSound}
+use Rattle.coincidence.specs.Cells.{turn_at, into_at, shift_at, IsLive, name}
+use Rattle.coincidence.specs.Atlases.{Atlas, AreOne, HasPeriod, LieAcross, IsSound}
 use Rattle.coincidence.specs.Followed.{AreNamed, IsFollowed, IsSettled}
 use Rattle.coincidence.specs.Pending.{IsShaped, IsQuiet}
-use Rattle.coincidence.specs.Tables.{JoinTable, origin_at, kind_of, atlas_of, atlas, dart_walk, dart_in, joined_in, joined_to, IsSoundTable, walk_to}
-use Rattle.coincidence.specs.Joined.{IsKept, IsNameOf, IsTable, HasRenamed}
+use Rattle.coincidence.specs.Tables.{JoinTable, origin_at, kind_of, atlas_of, atlas, dart_walk, dart_in, joined_in, walk_to}
+use Rattle.coincidence.specs.Joined.{IsKept, IsTable, HasRenamed}
 use Rattle.coincidence.proofs.Numbers.{zero_or_more, not_zero, divides_on}
 use Rattle.coincidence.proofs.Names.{named, name_live, name_settled, name_name, name_cell}
 use Rattle.coincidence.proofs.Origins.{dart_type, walk_first}
@@ -52,9 +49,9 @@ module _ (cells : List Cell) (slots : List ℕ) where
     | inr live ↦ elim (cases_eq (slot_at slots (place a)) nowhere) [
       | inl e ↦ let none : joined_in cells slots a ≡ None = joined_live a live ∙ dart_none (slot_at slots (place a)) e in absurd (cc (none, joined))
       | inr taken ↦
-        let some : joined_in cells slots a ≡ Some (unpack (slot_at slots (place a))) = joined_live a live ∙ dart_some (slot_at slots (place a)) taken in
-        let same : unpack (slot_at slots (place a)) ≡ b = cc (some, joined) in
-        record { live = live; taken = taken; over = same }
+          let some : joined_in cells slots a ≡ Some (unpack (slot_at slots (place a))) = joined_live a live ∙ dart_some (slot_at slots (place a)) taken in
+          let same : unpack (slot_at slots (place a)) ≡ b = cc (some, joined) in
+          record { live = live; taken = taken; over = same }
     ]
   ]
 
@@ -94,7 +91,7 @@ module _ (t : Table) (shaped : IsShaped t) (quiet : IsQuiet t.cells.items t.slot
       let is = place_is n holds.taken in
       let settled = taken_settled n holds.taken in
       let joined : joined_in cells' slots' (unpack n) ≡ Some (unpack (slot_at slots' n)) =
-        is_joined cells' slots' (unpack n) (omega (arith, settled)) (subst (IsTaken slots') (sym is) holds.taken) ∙ ap (λ m. Some (unpack (slot_at slots' m))) is in
+      is_joined cells' slots' (unpack n) (omega (arith, settled)) (subst (IsTaken slots') (sym is) holds.taken) ∙ ap (λ m. Some (unpack (slot_at slots' m))) is in
       subst (λ d. joined_in cells' slots' d ≡ Some q) at (joined ∙ ap Some over)
 
   name_is : (a : ℕ × ℕ) → IsLive cells' a.0 → unpack (place cells' slots' a) ≡ name cells' a

@@ -1,19 +1,18 @@
 -- Two darts of live cells are joined whose slots were empty.
-use Rattle.std.proofs.Common.{◌≡◌, ℕ, ◌+◌, ◌*◌, ◌/◌, ◌%◌, ◌<◌, ◌≤◌, List, [], ◌∷◌, ◌++◌, length, get_or, refl, sym, ap, ap₂, ◌∙◌, subst, inl, inr, arith, get_or-set_same, get_or-set_other, append_assoc}
+use Rattle.std.proofs.Common.{◌≡◌, ℕ, ◌*◌, ◌/◌, ◌%◌, ◌<◌, ◌≤◌, List, [], ◌∷◌, ◌++◌, length, refl, sym, ap, ◌∙◌, subst, inl, inr, arith, get_or-set_same, get_or-set_other, append_assoc}
 use Rattle.std.proofs.lemmas.List.{length-set, append-nil}
 use Rattle.std.proofs.lemmas.Bool.{cases_eq}
 use Rattle.std.proofs.Math.ListN.{set}
-use Rattle.tile_model.specs.declared.Letter.{Letter}
-use Rattle.tile_model.specs.declared.Letter.TheVariants.{L, X}
+use Rattle.tile_model.specs.declared.Letter.TheVariants.{X}
 use Rattle.tile_model.specs.Relation.{there_and_back}
 use Rattle.tile_model.proofs.Relations.{related_before, loop_empty}
 use Rattle.coincidence.specs.declared.table.Cell.{Cell}
 use Rattle.coincidence.specs.declared.table.Table.{Table}
 use Rattle.coincidence.specs.Darts.{nowhere, unpack, slot_at, IsTaken}
-use Rattle.coincidence.specs.Cells.{turn_at, shift_at, IsLive, IsOrdered, live_count, name}
+use Rattle.coincidence.specs.Cells.{turn_at, shift_at, IsOrdered, live_count, name}
 use Rattle.coincidence.specs.Atlases.{Atlas, AreOne, walk_of, LieAcross, IsSound}
-use Rattle.coincidence.specs.Followed.{AreNamed, HasFallen, IsFollowed, IsSettled}
-use Rattle.coincidence.specs.Pending.{IsPending, AreCovered, HasChain, IsShaped, HasMoved, work}
+use Rattle.coincidence.specs.Followed.{AreNamed, IsFollowed, IsSettled}
+use Rattle.coincidence.specs.Pending.{AreCovered, HasChain, IsShaped, HasMoved, work}
 use Rattle.coincidence.proofs.Names.{name_name}
 use Rattle.coincidence.proofs.Settled.{taken_some}
 use Rattle.coincidence.proofs.Moves.{followed_same}
@@ -27,10 +26,10 @@ across_back atlas a b h =
     one_on atlas (one_back atlas (one_behind atlas (X ∷ []) h)) twice
 
 module _ (t t' : Table) (a b : ℕ) (shaped : IsShaped t) (first : IsSettled t.cells.items a) (second : IsSettled t.cells.items b)
-  (first_made : a < 64 * length t.cells.items) (second_made : b < 64 * length t.cells.items)
-  (first_empty : slot_at t.slots.items a ≡ nowhere) (second_empty : slot_at t.slots.items b ≡ nowhere)
-  (cells_are : t'.cells ≡ t.cells) (head_is : t'.head ≡ t.head) (live_is : t'.live ≡ t.live)
-  (slots_are : t'.slots.items ≡ set (set t.slots.items a b) b a) where
+    (first_made : a < 64 * length t.cells.items) (second_made : b < 64 * length t.cells.items)
+    (first_empty : slot_at t.slots.items a ≡ nowhere) (second_empty : slot_at t.slots.items b ≡ nowhere)
+    (cells_are : t'.cells ≡ t.cells) (head_is : t'.head ≡ t.head) (live_is : t'.live ≡ t.live)
+    (slots_are : t'.slots.items ≡ set (set t.slots.items a b) b a) where
   abbrev cells : List Cell
   cells = t.cells.items
 
@@ -74,10 +73,10 @@ module _ (t t' : Table) (a b : ℕ) (shaped : IsShaped t) (first : IsSettled t.c
 
   link_back : (n : ℕ) → IsTaken slots' n → slot_at slots' (slot_at slots' n) ≡ n
   link_back = at_each (λ n e. slot_at slots' e ≡ n) at_b link_slot (λ n taken.
-    let e = slot_at slots n in
-    let back = shaped.back n taken in
-    let there : IsTaken slots e = λ none. taken_some t n shaped taken (sym back ∙ none) in
-    (still_taken e there).1 ∙ back)
+      let e = slot_at slots n in
+      let back = shaped.back n taken in
+      let there : IsTaken slots e = λ none. taken_some t n shaped taken (sym back ∙ none) in
+      (still_taken e there).1 ∙ back)
 
   same : t'.cells.items ≡ t.cells.items
   same = ap (λ v. v.items) cells_are

@@ -1,6 +1,6 @@
 -- A cell is made across a dart: a live cell is added to the table, and the two darts are joined.
-use Rattle.std.proofs.Common.{◌≡◌, ℕ, zero, suc, ◌+◌, ◌-◌, ◌*◌, ◌/◌, ◌%◌, ◌<◌, ◌≤◌, cond, nat_eq, List, [], ◌∷◌, ◌++◌, length, replicate, Option, Some, None, refl, sym, ap, ap₂, ◌∙◌, subst, inl, inr, arith, append_assoc, mod-lt, mod-eq_of_lt}
-use Rattle.std.proofs.lemmas.Bool.{cases_lt, cases_eq, eq-eqb}
+use Rattle.std.proofs.Common.{◌≡◌, ℕ, ◌+◌, ◌*◌, ◌/◌, ◌%◌, ◌<◌, ◌≤◌, cond, nat_eq, List, [], ◌∷◌, ◌++◌, length, replicate, Option, Some, None, refl, sym, ap, ap₂, ◌∙◌, subst, inl, inr, arith, append_assoc, mod-lt, mod-eq_of_lt}
+use Rattle.std.proofs.lemmas.Bool.{cases_lt, cases_eq}
 use Rattle.std.proofs.lemmas.List.{get_or_past, append-nil}
 use Rattle.std.proofs.Math.Nat.{mod_self}
 use Rattle.tile_model.specs.declared.Letter.{Letter}
@@ -15,18 +15,18 @@ use Rattle.coincidence.specs.declared.origin.Origin.{Origin}
 use Rattle.coincidence.specs.declared.table.Cell.{Cell}
 use Rattle.coincidence.specs.declared.table.Table.{Table}
 use Rattle.coincidence.specs.Darts.{nowhere, pack, unpack, slot_at, IsTaken}
-use Rattle.coincidence.specs.Cells.{no_cell, cell_at, turn_at, into_at, shift_at, IsLive, IsOrdered, live_count, name}
+use Rattle.coincidence.specs.Cells.{cell_at, turn_at, into_at, shift_at, IsLive, IsOrdered, live_count, name}
 use Rattle.coincidence.specs.Atlases.{Atlas, AreOne, walk_of, HasPeriod, LieAcross, IsSound}
 use Rattle.coincidence.specs.Followed.{AreNamed, IsSettled}
-use Rattle.coincidence.specs.Pending.{last_link, HasChain, IsPending, IsQuiet, IsShaped, IsExtended, fresh_cell, HasMoved}
-use Rattle.coincidence.specs.Tables.{JoinTable, origin_at, kind_of, atlas_of, atlas, walk_to, type_in, type_at, dart_in, joined_in, joined_to, ComesFrom}
+use Rattle.coincidence.specs.Pending.{last_link, HasChain, IsQuiet, IsShaped, IsExtended, HasMoved}
+use Rattle.coincidence.specs.Tables.{JoinTable, origin_at, kind_of, atlas_of, walk_to, type_in, type_at, dart_in, joined_in, ComesFrom}
 use Rattle.coincidence.specs.Joined.{IsKept, IsFirst, HasMade}
 use Rattle.coincidence.proofs.Numbers.{zero_or_more, not_zero}
 use Rattle.coincidence.proofs.Names.{named, name_live}
 use Rattle.coincidence.proofs.Periods.{one_equal, one_back, one_on}
 use Rattle.coincidence.proofs.Settled.{live_made, taken_made, unpack_pack}
 use Rattle.coincidence.proofs.Origins.{AreEarlier, walk_on, walk_past, walk_first, walk_made, walk_old, origin_old, origin_new, more_length, come_earlier, side_type, walk_types, there_and_left}
-use Rattle.coincidence.proofs.Extends.{MayGrow, empty_grows, shaped_grows, grown_length, grown_new, grown_other, grown_shaped, grown_quiet, grown_names, grown_ordered, grown_sound, grown_new_live}
+use Rattle.coincidence.proofs.Extends.{MayGrow, empty_grows, shaped_grows, grown_length, grown_new, grown_other, grown_shaped, grown_quiet, grown_names, grown_sound}
 use Rattle.coincidence.proofs.Kept.{is_joined}
 
 -- a join by the turn and by what stands in the slot
@@ -94,9 +94,9 @@ module _ (kinds : List TileKind) (valid : IsValid kinds) (k : ℕ) (there : k < 
     come = λ c some made. absurd (omega (arith, some, made));
     met = λ c some made. absurd (omega (arith, some, made));
     turns = λ c live.
-      let made = live_made t'.cells.items c live in
-      let e = only_first c (omega (arith, made, count')) in
-      subst (λ x. (kind_at kinds (kind_of only x)).sides % turn_at t'.cells.items x ≡ 0) (sym e) (ap (λ n. first_sides % n) first_turn ∙ mod_self first_sides);
+        let made = live_made t'.cells.items c live in
+        let e = only_first c (omega (arith, made, count')) in
+        subst (λ x. (kind_at kinds (kind_of only x)).sides % turn_at t'.cells.items x ≡ 0) (sym e) (ap (λ n. first_sides % n) first_turn ∙ mod_self first_sides);
     sound = first_sound;
   }
 
@@ -112,8 +112,8 @@ module _ (kinds : List TileKind) (valid : IsValid kinds) (k : ℕ) (there : k < 
 
 -- the dart across which the cell is made, its least side, is near; over is the type of the side across
 module _ (kinds : List TileKind) (origins : List Origin) (t t1 : Table) (kept : IsKept kinds origins t) (d near over : ℕ × ℕ) (room : length origins < 1000000)
-  (live : IsLive t.cells.items d.0) (near_is : near ≡ name t.cells.items d) (over_is : over ≡ cross kinds (type_in kinds origins near))
-  (extended : IsExtended t t1 (kind_at kinds over.0).sides) where
+    (live : IsLive t.cells.items d.0) (near_is : near ≡ name t.cells.items d) (over_is : over ≡ cross kinds (type_in kinds origins near))
+    (extended : IsExtended t t1 (kind_at kinds over.0).sides) where
   abbrev n : ℕ
   n = length origins
 
@@ -197,8 +197,8 @@ module _ (kinds : List TileKind) (origins : List Origin) (t t1 : Table) (kept : 
   origin_after P at_new others c made = elim (cases_lt c n) [
     | inl old ↦ subst (P c) (sym (origin_old origins new_origin c old)) (others c old)
     | inr past ↦
-      let e : c ≡ n = let long = more_length origins new_origin in omega (arith, past, made, long) in
-      subst (λ x. P x (origin_at after x)) (sym e) (subst (P n) (sym (origin_new origins new_origin)) at_new)
+        let e : c ≡ n = let long = more_length origins new_origin in omega (arith, past, made, long) in
+        subst (λ x. P x (origin_at after x)) (sym e) (subst (P n) (sym (origin_new origins new_origin)) at_new)
   ]
 
   kinds_after : (c : ℕ) → c < length after → kind_of after c < length kinds
@@ -262,16 +262,16 @@ module _ (kinds : List TileKind) (origins : List Origin) (t t1 : Table) (kept : 
   sound_after =
       grown_sound t t1 turn may extended some_sides narrow there
       (λ m taken.
-        let old = taken_made t.slots.items m taken in
-        let old' = kept.shaped.made m taken in
-        across_after (unpack m) (unpack (slot_at t.slots.items m)) (omega (arith, old, kept.shaped.slots, same_count)) (omega (arith, old', same_count)) (kept.sound.joined m taken))
+      let old = taken_made t.slots.items m taken in
+      let old' = kept.shaped.made m taken in
+      across_after (unpack m) (unpack (slot_at t.slots.items m)) (omega (arith, old, kept.shaped.slots, same_count)) (omega (arith, old', same_count)) (kept.sound.joined m taken))
       (λ c made gone.
-        let before = kept.shaped.ordered c gone in
-        one_on there (one_equal there (walk_kept c (omega (arith, made, same_count)))) (one_on there (one_after (kept.sound.renamed c gone)) (one_equal there (sym (walk_after (into_at t.cells.items c) (shift_at t.cells.items c) (omega (arith, before, made, same_count)))))))
+      let before = kept.shaped.ordered c gone in
+      one_on there (one_equal there (walk_kept c (omega (arith, made, same_count)))) (one_on there (one_after (kept.sound.renamed c gone)) (one_equal there (sym (walk_after (into_at t.cells.items c) (shift_at t.cells.items c) (omega (arith, before, made, same_count)))))))
       (λ c past. one_equal there (walk_past after c (omega (arith, past, same_count, long_after)) ∙ sym (append-nil (walk_to after 0) ∙ walk_first after)))
       (λ c made live.
-        let made' : c < n = omega (arith, made, same_count) in
-        one_on there (one_equal there (walk_after c (turn_at t.cells.items c) made')) (one_on there (one_after (kept.sound.turned c live)) (one_equal there (sym (walk_kept c made')))))
+      let made' : c < n = omega (arith, made, same_count) in
+      one_on there (one_equal there (walk_after c (turn_at t.cells.items c) made')) (one_on there (one_after (kept.sound.turned c live)) (one_equal there (sym (walk_kept c made')))))
       (subst (λ c. HasPeriod there c turn) (sym same_count) (period_of_kind kinds after n over.0 type_new))
 
   pub lies_across : LieAcross (atlas_of kinds (origins ++ record { kind = over.0; own = over.1; across = pack near } ∷ [])) (unpack (pack near)) (unpack (pack (length origins, over.1)))
@@ -285,8 +285,8 @@ module _ (kinds : List TileKind) (origins : List Origin) (t t1 : Table) (kept : 
 
   -- and then both darts are joined
   module _ (t2 : Table) (cells_are : t2.cells ≡ t1.cells) (moved : HasMoved t1 t2) (slot : slot_at t2.slots.items (pack near) ≡ pack (length origins, over.1))
-    (others : (m : ℕ) → ¬ (m ≡ pack near) → ¬ (m ≡ pack (length origins, over.1)) → slot_at t2.slots.items m ≡ slot_at t1.slots.items m)
-    (sound : IsSound (atlas_of kinds (origins ++ record { kind = over.0; own = over.1; across = pack near } ∷ [])) t2.cells.items t2.slots.items) where
+      (others : (m : ℕ) → ¬ (m ≡ pack near) → ¬ (m ≡ pack (length origins, over.1)) → slot_at t2.slots.items m ≡ slot_at t1.slots.items m)
+      (sound : IsSound (atlas_of kinds (origins ++ record { kind = over.0; own = over.1; across = pack near } ∷ [])) t2.cells.items t2.slots.items) where
     same_cells : t2.cells.items ≡ t1.cells.items
     same_cells = ap (λ v. v.items) cells_are
 
@@ -331,16 +331,16 @@ module _ (kinds : List TileKind) (origins : List Origin) (t t1 : Table) (kept : 
       kinds_there = kinds_after;
       come = come_after;
       met = λ c some made. origin_after (λ c o. 0 < c → AreNamed t2.cells.items t2.slots.items (name t2.cells.items (unpack o.across)) (name t2.cells.items (c, o.own)))
-        (λ _. record { at = pack near; taken = some_slot; here = refl; across = ap (λ x. name t2.cells.items (unpack x)) slot ∙ ap (name t2.cells.items) over_packed })
-        (λ c old some.
+          (λ _. record { at = pack near; taken = some_slot; here = refl; across = ap (λ x. name t2.cells.items (unpack x)) slot ∙ ap (name t2.cells.items) over_packed })
+          (λ c old some.
           let before = (kept.come c some old).earlier in
           named_after (unpack (origin_at origins c).across) (c, (origin_at origins c).own) (omega (arith, before, old)) old (kept.met c some old)) c made some;
       turns = λ c live'.
-        let made = live_made t2.cells.items c live' in
-        let long : c < length after = omega (arith, made, moved.followed.count, grown_length t t1 turn may extended some_sides narrow, same_count, long_after) in
-        origin_after (λ c o. IsLive t2.cells.items c → (kind_at kinds o.kind).sides % turn_at t2.cells.items c ≡ 0)
-        (λ _. ap (λ x. turn % x) (turn_after n ∙ new_turn) ∙ mod_self turn)
-        (λ c old live'.
+          let made = live_made t2.cells.items c live' in
+          let long : c < length after = omega (arith, made, moved.followed.count, grown_length t t1 turn may extended some_sides narrow, same_count, long_after) in
+          origin_after (λ c o. IsLive t2.cells.items c → (kind_at kinds o.kind).sides % turn_at t2.cells.items c ≡ 0)
+          (λ _. ap (λ x. turn % x) (turn_after n ∙ new_turn) ∙ mod_self turn)
+          (λ c old live'.
           let same : turn_at t2.cells.items c ≡ turn_at t.cells.items c = turn_after c ∙ ap (λ (x : Cell). x.turn) (old_cell c old) in
           subst (λ x. (kind_at kinds (kind_of origins c)).sides % x ≡ 0) (sym same) (kept.turns c (subst (λ x. 0 < x) same live'))) c long live';
       sound = sound;
@@ -389,12 +389,12 @@ module _ (kinds : List TileKind) (origins : List Origin) (t t1 : Table) (kept : 
             elim (zero_or_more x) [
               | inl gone ↦ ap (λ y. read y (slot_at t2.slots.items (pack (e.0, e.1 % x2)))) (same ∙ gone) ∙ sym (ap (λ y. read y (slot_at t.slots.items m)) gone)
               | inr live_e ↦
-                let below = mod-lt e.1 live_e in
-                let small = kept.shaped.turns e.0 in
-                let parts : unpack m ≡ (e.0, e.1 % x) = unpack_pack (e.0, e.1 % x) (omega (arith, below, small)) in
-                let not_near : ¬ (m ≡ pack near) = λ is. away (name_live t.cells.items kept.shaped.ordered e.0 e.1 live_e ∙ (sym parts ∙ (ap unpack is ∙ (near_packed ∙ near_is)))) in
-                let not_over : ¬ (m ≡ pack (n, over.1)) = λ is. omega (arith, is, below, small, old) in
-                ap₂ (λ y i. read y (slot_at t2.slots.items (pack (e.0, i)))) same (ap (λ y. e.1 % y) same) ∙ ap (read x) (slot_before m not_near not_over)
+                  let below = mod-lt e.1 live_e in
+                  let small = kept.shaped.turns e.0 in
+                  let parts : unpack m ≡ (e.0, e.1 % x) = unpack_pack (e.0, e.1 % x) (omega (arith, below, small)) in
+                  let not_near : ¬ (m ≡ pack near) = λ is. away (name_live t.cells.items kept.shaped.ordered e.0 e.1 live_e ∙ (sym parts ∙ (ap unpack is ∙ (near_packed ∙ near_is)))) in
+                  let not_over : ¬ (m ≡ pack (n, over.1)) = λ is. omega (arith, is, below, small, old) in
+                  ap₂ (λ y i. read y (slot_at t2.slots.items (pack (e.0, i)))) same (ap (λ y. e.1 % y) same) ∙ ap (read x) (slot_before m not_near not_over)
             ]
 
         made_unjoined : (i : ℕ) → i < turn_at t2.cells.items n → ¬ (i ≡ (origin_at after n).own) → joined_in t2.cells.items t2.slots.items (n, i) ≡ None
@@ -413,9 +413,9 @@ module _ (kinds : List TileKind) (origins : List Origin) (t t1 : Table) (kept : 
   near_empty none = elim (cases_eq (slot_at t.slots.items (pack near)) nowhere) [
     | inl e ↦ extended.same (pack near) ∙ e
     | inr taken ↦
-      let place : pack (d.0, d.1 % turn_at t.cells.items d.0) ≡ pack near = ap pack (sym near_at) in
-      let some = is_joined t.cells.items t.slots.items d live (subst (IsTaken t.slots.items) (sym place) taken) in
-      absurd (cc (none, some))
+        let place : pack (d.0, d.1 % turn_at t.cells.items d.0) ≡ pack near = ap pack (sym near_at) in
+        let some = is_joined t.cells.items t.slots.items d live (subst (IsTaken t.slots.items) (sym place) taken) in
+        absurd (cc (none, some))
   ]
 
   pub over_empty : slot_at t1.slots.items (pack (length origins, over.1)) ≡ nowhere

@@ -1,12 +1,11 @@
 -- Two darts of live cells that are made one.
-use Rattle.std.proofs.Common.{◌≡◌, ℕ, zero, suc, ◌+◌, ◌-◌, ◌*◌, ◌/◌, ◌%◌, ◌<◌, ◌≤◌, List, length, refl, sym, ap, ap₂, ◌∙◌, subst, inl, inr, arith, get_or-set_same, get_or-set_other}
+use Rattle.std.proofs.Common.{◌≡◌, ℕ, ◌+◌, ◌-◌, ◌/◌, ◌%◌, ◌<◌, ◌≤◌, List, length, sym, ap, ap₂, ◌∙◌, subst, inl, inr, arith, get_or-set_same, get_or-set_other}
 use Rattle.std.proofs.lemmas.Bool.{cases_lt}
 use Rattle.std.proofs.Math.ListN.{set}
-use Rattle.std.proofs.Math.Nat.{add-mod-mod, mod-add-mod, dvd_of_mod-eq-zero}
-use Rattle.tile_model.specs.declared.Letter.TheVariants.{L, X}
+use Rattle.std.proofs.Math.Nat.{add-mod-mod}
 use Rattle.coincidence.specs.declared.table.Cell.{Cell}
 use Rattle.coincidence.specs.declared.table.Table.{Table}
-use Rattle.coincidence.specs.Darts.{nowhere, pack, unpack, slot_at, IsTaken}
+use Rattle.coincidence.specs.Darts.{pack, unpack, slot_at, IsTaken}
 use Rattle.coincidence.specs.Cells.{no_cell, cell_at, turn_at, into_at, shift_at, IsLive, IsOrdered, name}
 use Rattle.coincidence.specs.Atlases.{Atlas, AreOne, walk_of, HasPeriod, LieAcross, IsSound}
 use Rattle.coincidence.specs.Pending.{IsShaped, written_cell}
@@ -21,11 +20,11 @@ mod_more i d g e = sym (add-mod-mod i d g) ∙ (ap (λ r. (i + r) % g) e ∙ ap 
 mod_apart : (i j g : ℕ) → ((i - j) + (j - i)) % g ≡ 0 → i % g ≡ j % g
 mod_apart i j g e = elim (cases_lt i j) [
   | inl less ↦
-    let d : j ≡ i + ((i - j) + (j - i)) = omega (arith, less) in
-    sym (ap (λ n. n % g) d ∙ mod_more i ((i - j) + (j - i)) g e)
+      let d : j ≡ i + ((i - j) + (j - i)) = omega (arith, less) in
+      sym (ap (λ n. n % g) d ∙ mod_more i ((i - j) + (j - i)) g e)
   | inr more ↦
-    let d : i ≡ j + ((i - j) + (j - i)) = omega (arith, more) in
-    ap (λ n. n % g) d ∙ mod_more j ((i - j) + (j - i)) g e
+      let d : i ≡ j + ((i - j) + (j - i)) = omega (arith, more) in
+      ap (λ n. n % g) d ∙ mod_more j ((i - j) + (j - i)) g e
 ]
 
 pub folded_together : (cells : List Cell) (c i j by : ℕ) → IsOrdered cells → IsLive cells c → by ≡ (i - j) + (j - i) → by % turn_at cells c ≡ 0 → name cells (c, i) ≡ name cells (c, j)
@@ -36,11 +35,11 @@ folded_together cells c i j by ordered live is divides =
 pub period_apart : (atlas : Atlas) (c t i j : ℕ) → i ≤ t → j ≤ t → HasPeriod atlas c t → AreOne atlas (walk_of atlas (c, i)) (walk_of atlas (c, j)) → HasPeriod atlas c ((i - j) + (j - i))
 period_apart atlas c t i j le le' period same = elim (cases_lt i j) [
   | inl less ↦
-    let d : j - i ≡ (i - j) + (j - i) = omega (arith, less) in
-    subst (HasPeriod atlas c) d (period_between atlas c t i j le (omega (arith, less)) period same)
+      let d : j - i ≡ (i - j) + (j - i) = omega (arith, less) in
+      subst (HasPeriod atlas c) d (period_between atlas c t i j le (omega (arith, less)) period same)
   | inr more ↦
-    let d : i - j ≡ (i - j) + (j - i) = omega (arith, more) in
-    subst (HasPeriod atlas c) d (period_between atlas c t j i le' more period (one_back atlas same))
+      let d : i - j ≡ (i - j) + (j - i) = omega (arith, more) in
+      subst (HasPeriod atlas c) d (period_between atlas c t j i le' more period (one_back atlas same))
 ]
 
 shifted : (i j t g : ℕ) → i ≤ t → t % g ≡ 0 → (i + (j + (t - i)) % g) % g ≡ j % g
@@ -67,13 +66,13 @@ name_sound atlas cells slots ordered sound =
     by_names cells ordered (λ c i. AreOne atlas (walk_of atlas (c, i)) (walk_of atlas (name cells (c, i))))
     (λ c i live. subst (λ d. AreOne atlas (walk_of atlas (c, i)) (walk_of atlas d)) (sym (name_live cells ordered c i live)) (period_mod atlas c (turn_at cells c) i (sound.turned c live)))
     (λ c i gone rest.
-      let e = into_at cells c in
-      let s = shift_at cells c in
-      let first : AreOne atlas (walk_of atlas (c, 0)) (walk_of atlas (e, s)) = one_on atlas (one_equal atlas (at_zero atlas c)) (sound.renamed c gone) in
-      let left : 0 + i ≡ i = omega arith in
-      let right : s + i ≡ i + s = omega arith in
-      let on : AreOne atlas (walk_of atlas (c, i)) (walk_of atlas (e, i + s)) = subst (λ k. AreOne atlas (walk_of atlas (c, k)) (walk_of atlas (e, i + s))) left (subst (λ k. AreOne atlas (walk_of atlas (c, 0 + i)) (walk_of atlas (e, k))) right (one_turned atlas c 0 e s i first)) in
-      subst (λ d. AreOne atlas (walk_of atlas (c, i)) (walk_of atlas d)) (sym (name_renamed cells ordered c i gone)) (one_on atlas on rest))
+    let e = into_at cells c in
+    let s = shift_at cells c in
+    let first : AreOne atlas (walk_of atlas (c, 0)) (walk_of atlas (e, s)) = one_on atlas (one_equal atlas (at_zero atlas c)) (sound.renamed c gone) in
+    let left : 0 + i ≡ i = omega arith in
+    let right : s + i ≡ i + s = omega arith in
+    let on : AreOne atlas (walk_of atlas (c, i)) (walk_of atlas (e, i + s)) = subst (λ k. AreOne atlas (walk_of atlas (c, k)) (walk_of atlas (e, i + s))) left (subst (λ k. AreOne atlas (walk_of atlas (c, 0 + i)) (walk_of atlas (e, k))) right (one_turned atlas c 0 e s i first)) in
+    subst (λ d. AreOne atlas (walk_of atlas (c, i)) (walk_of atlas d)) (sym (name_renamed cells ordered c i gone)) (one_on atlas on rest))
 
 -- the dart in a slot, named, is where the slot's dart crosses to
 pub across_name : (atlas : Atlas) (t : Table) (n x y : ℕ) → IsShaped t → IsSound atlas t.cells.items t.slots.items → IsTaken t.slots.items n → x ≡ pack (name t.cells.items (unpack (slot_at t.slots.items n))) → LieAcross atlas (unpack n) (unpack y) → AreOne atlas (walk_of atlas (unpack x)) (walk_of atlas (unpack y))

@@ -1,10 +1,10 @@
 -- Changes of a table, one after the other.
-use Rattle.std.proofs.Common.{◌≡◌, ℕ, ◌+◌, ◌*◌, ◌/◌, ◌%◌, ◌<◌, ◌≤◌, List, length, refl, sym, ap, ◌∙◌, subst, inl, inr, arith}
+use Rattle.std.proofs.Common.{ℕ, List, refl, sym, ap, ◌∙◌, arith}
 use Rattle.std.proofs.Math.Nat.{mod_self}
 use Rattle.coincidence.specs.declared.table.Cell.{Cell}
 use Rattle.coincidence.specs.declared.table.Table.{Table}
-use Rattle.coincidence.specs.Cells.{turn_at, IsLive, IsOrdered, name}
-use Rattle.coincidence.specs.Followed.{AreNamed, HasFallen, IsFollowed}
+use Rattle.coincidence.specs.Cells.{turn_at, IsOrdered, name}
+use Rattle.coincidence.specs.Followed.{AreNamed, IsFollowed}
 use Rattle.coincidence.specs.Pending.{IsShaped, HasMoved}
 use Rattle.coincidence.proofs.Numbers.{divides_on}
 use Rattle.coincidence.proofs.Names.{name_name}
@@ -26,9 +26,9 @@ followed_on first slots second slots' third slots'' one two = record {
   names = λ d. sym (two.names (name first d)) ∙ (ap (name third) (one.names d) ∙ two.names d);
   kept = λ p q named. rename p q (two.kept (name second p) (name second q) (one.kept p q named));
   turns = λ c live.
-    let later = two.turns c live in
-    let earlier = one.turns c later.was_live in
-    record { was_live = earlier.was_live; divides = divides_on (turn_at first c) (turn_at second c) (turn_at third c) earlier.divides later.divides };
+      let later = two.turns c live in
+      let earlier = one.turns c later.was_live in
+      record { was_live = earlier.was_live; divides = divides_on (turn_at first c) (turn_at second c) (turn_at third c) earlier.divides later.divides };
   count = two.count ∙ one.count;
 }
   where

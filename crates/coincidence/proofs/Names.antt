@@ -1,7 +1,7 @@
 -- The dart of a live cell that a dart is.
-use Rattle.std.proofs.Common.{◌≡◌, ℕ, zero, suc, ◌+◌, ◌%◌, ◌<◌, ◌≤◌, Bool, true, false, cond, nat_eq, List, refl, sym, ap, ap₂, ◌∙◌, subst, inl, inr, arith, mod-lt, mod-eq_of_lt}
+use Rattle.std.proofs.Common.{◌≡◌, ℕ, zero, suc, ◌+◌, ◌%◌, ◌<◌, ◌≤◌, cond, nat_eq, List, sym, ap, ap₂, ◌∙◌, subst, inl, inr, arith, mod-lt, mod-eq_of_lt}
 use Rattle.coincidence.specs.declared.table.Cell.{Cell}
-use Rattle.coincidence.specs.Cells.{cell_at, turn_at, into_at, shift_at, IsLive, IsOrdered, name_within, name}
+use Rattle.coincidence.specs.Cells.{turn_at, into_at, shift_at, IsLive, IsOrdered, name_within, name}
 use Rattle.coincidence.proofs.Numbers.{zero_or_more, not_zero}
 
 module _ (cells : List Cell) where
@@ -18,8 +18,8 @@ module _ (cells : List Cell) where
     within_same (suc m) zero c i h k = absurd (omega arith)
     within_same (suc m) (suc n) c i h k = elim (zero_or_more (turn_at cells c)) [
       | inl e ↦
-        let below = ordered c e in
-        within_renamed m c i e ∙ within_same m n (into_at cells c) (i + shift_at cells c) (omega arith) (omega arith) ∙ sym (within_renamed n c i e)
+          let below = ordered c e in
+          within_renamed m c i e ∙ within_same m n (into_at cells c) (i + shift_at cells c) (omega arith) (omega arith) ∙ sym (within_renamed n c i e)
       | inr live ↦ within_live m c i live ∙ sym (within_live n c i live)
     ]
 
@@ -52,8 +52,8 @@ module _ (cells : List Cell) where
 
     pub named : (c i : ℕ) → IsNamed c (name cells (c, i))
     named = by_names (λ c i. IsNamed c (name cells (c, i)))
-      (λ c i live. subst (IsNamed c) (sym (name_live c i live)) (record { live = live; below = mod-lt i live; earlier = omega arith }))
-      (λ c i e h. subst (IsNamed c) (sym (name_renamed c i e)) (let below = ordered c e in record { live = h.live; below = h.below; earlier = omega (arith, h.earlier) }))
+        (λ c i live. subst (IsNamed c) (sym (name_live c i live)) (record { live = live; below = mod-lt i live; earlier = omega arith }))
+        (λ c i e h. subst (IsNamed c) (sym (name_renamed c i e)) (let below = ordered c e in record { live = h.live; below = h.below; earlier = omega (arith, h.earlier) }))
 
     -- a dart of a live cell below its turn has its own name
     pub name_settled : (c i : ℕ) → i < turn_at cells c → name cells (c, i) ≡ (c, i)
@@ -65,9 +65,9 @@ module _ (cells : List Cell) where
 -- all sides of a cell become sides of one cell
 pub name_cell : (cells : List Cell) → IsOrdered cells → (c i j : ℕ) → (name cells (c, i)).0 ≡ (name cells (c, j)).0
 name_cell cells ordered c i j = by_names cells ordered (λ c i. (j : ℕ) → (name cells (c, i)).0 ≡ (name cells (c, j)).0)
-  (λ c i live j. ap (λ p. p.0) (name_live cells ordered c i live) ∙ sym (ap (λ p. p.0) (name_live cells ordered c j live)))
-  (λ c i gone rest j. ap (λ p. p.0) (name_renamed cells ordered c i gone) ∙ (rest (j + shift_at cells c) ∙ sym (ap (λ p. p.0) (name_renamed cells ordered c j gone))))
-  c i j
+    (λ c i live j. ap (λ p. p.0) (name_live cells ordered c i live) ∙ sym (ap (λ p. p.0) (name_live cells ordered c j live)))
+    (λ c i gone rest j. ap (λ p. p.0) (name_renamed cells ordered c i gone) ∙ (rest (j + shift_at cells c) ∙ sym (ap (λ p. p.0) (name_renamed cells ordered c j gone))))
+    c i j
 
 -- Names are composed where renamed cells stay as they are, and sides equal modulo the old turn of a live cell keep one name.
 pub record Respects (cells cells' : List Cell) : Type 0 where

@@ -1,5 +1,5 @@
 -- Numbers: tests, remainders by divisors.
-use Rattle.std.proofs.Common.{◌≡◌, ℕ, zero, suc, ◌+◌, ◌%◌, ◌<◌, ◌≤◌, ◌⊎◌, Bool, true, false, nat_eq, nat_lt, refl, sym, ap, ◌∙◌, subst, inl, inr, arith, mod-lt, mod-eq_of_lt}
+use Rattle.std.proofs.Common.{◌≡◌, ℕ, zero, suc, ◌+◌, ◌%◌, ◌<◌, ◌≤◌, ◌⊎◌, false, nat_eq, refl, sym, ap, ◌∙◌, inl, inr, arith}
 use Rattle.std.proofs.lemmas.Bool.Decides.{nat_tests}
 use Rattle.std.proofs.Math.Nat.{mod-mod_of_dvd, mod-add-mod, dvd_of_mod-eq-zero, mod-eq-zero_of_dvd, dvd_trans, dvd-mod_iff, le_of_dvd, zero-mod}
 

@@ -1,5 +1,5 @@
 -- The walks to cells, and their types, where one more cell is made.
-use Rattle.std.proofs.Common.{◌≡◌, ℕ, zero, suc, ◌+◌, ◌-◌, ◌*◌, ◌/◌, ◌%◌, ◌<◌, ◌≤◌, Bool, true, false, cond, nat_lt, ◌&&◌, List, [], ◌∷◌, ◌++◌, length, replicate, map, refl, sym, ap, ap₂, ◌∙◌, subst, inl, inr, arith, mod-eq_of_lt, mod-lt, append_assoc}
+use Rattle.std.proofs.Common.{◌≡◌, ℕ, zero, suc, ◌+◌, ◌-◌, ◌/◌, ◌%◌, ◌<◌, ◌≤◌, Bool, true, false, cond, nat_lt, ◌&&◌, List, [], ◌∷◌, ◌++◌, length, replicate, refl, sym, ap, ap₂, ◌∙◌, subst, inl, inr, arith, mod-eq_of_lt, mod-lt}
 use Rattle.std.proofs.lemmas.Bool.{cases_lt, lt-ltb, le-ltb}
 use Rattle.std.proofs.lemmas.List.{get_or_append_left, get_or_push, length_push, append-nil, replicate_more}
 use Rattle.std.proofs.Math.Nat.{add-mod_right}
@@ -76,8 +76,8 @@ module _ (origins : List Origin) where
       | inl made ↦ elim (zero_or_more c) [
         | inl e ↦ ap (walk_within (suc m) origins) e ∙ (within_zero (suc m) ∙ sym (ap (walk_within (suc n) origins) e ∙ within_zero (suc n)))
         | inr some ↦
-          let before = earlier c some made in
-          within_made m c some made ∙ (ap (λ u. walk_on u (origin_at origins c)) (within_same m n ((origin_at origins c).across / 64) (omega (arith, before, h)) (omega (arith, before, k))) ∙ sym (within_made n c some made))
+            let before = earlier c some made in
+            within_made m c some made ∙ (ap (λ u. walk_on u (origin_at origins c)) (within_same m n ((origin_at origins c).across / 64) (omega (arith, before, h)) (omega (arith, before, k))) ∙ sym (within_made n c some made))
       ]
     ]
 
@@ -120,11 +120,11 @@ module _ (origins : List Origin) (o : Origin) where
       go (suc bound) c h made = elim (zero_or_more c) [
         | inl e ↦ ap (walk_to more) e ∙ (walk_first more ∙ sym (ap (walk_to origins) e ∙ walk_first origins))
         | inr some ↦
-          let same = origin_old c made in
-          let before = earlier c some made in
-          let long = more_length in
-          let rest = go bound ((origin_at origins c).across / 64) (omega (arith, before, h)) (omega (arith, before, made)) in
-          walk_made more earlier' c some (omega (arith, long, made)) ∙ (ap (λ x. walk_on (walk_to more (x.across / 64)) x) same ∙ (ap (λ u. walk_on u (origin_at origins c)) rest ∙ sym (walk_made origins earlier c some made)))
+            let same = origin_old c made in
+            let before = earlier c some made in
+            let long = more_length in
+            let rest = go bound ((origin_at origins c).across / 64) (omega (arith, before, h)) (omega (arith, before, made)) in
+            walk_made more earlier' c some (omega (arith, long, made)) ∙ (ap (λ x. walk_on (walk_to more (x.across / 64)) x) same ∙ (ap (λ u. walk_on u (origin_at origins c)) rest ∙ sym (walk_made origins earlier c some made)))
       ]
 
 -- each walk leads to side 0 of a tile of its cell's kind
@@ -154,14 +154,14 @@ module _ (kinds : List TileKind) (valid : IsValid kinds) (origins : List Origin)
       go (suc bound) c h made = elim (zero_or_more c) [
         | inl e ↦ ap (λ x. type_of kinds (kind_of origins 0, 0) (walk_to origins x)) e ∙ (ap (type_of kinds (kind_of origins 0, 0)) (walk_first origins) ∙ ap (λ x. (kind_of origins x, 0)) (sym e))
         | inr some ↦
-          let from = come c some made in
-          let o = origin_at origins c in
-          let b = o.across / 64 in
-          let before = from.earlier in
-          let made_b : b < length origins = omega (arith, before, made) in
-          let rest = go bound b (omega (arith, before, h)) made_b in
-          let is_type : IsType kinds (kind_of origins c, o.own) = subst (IsType kinds) (sym from.across) (cross_type kinds valid (type_in kinds origins (unpack o.across)) (side_type b (o.across % 64) made_b)) in
-          ap (type_of kinds (kind_of origins 0, 0)) (walk_made origins come_earlier c some made) ∙ (on b (o.across % 64) o.own (walk_to origins b) rest (first_type b made_b) ∙ (ap (λ d. type_of kinds d (replicate o.own R)) (sym from.across) ∙ type_rights kinds (kind_of origins c) o.own is_type))
+            let from = come c some made in
+            let o = origin_at origins c in
+            let b = o.across / 64 in
+            let before = from.earlier in
+            let made_b : b < length origins = omega (arith, before, made) in
+            let rest = go bound b (omega (arith, before, h)) made_b in
+            let is_type : IsType kinds (kind_of origins c, o.own) = subst (IsType kinds) (sym from.across) (cross_type kinds valid (type_in kinds origins (unpack o.across)) (side_type b (o.across % 64) made_b)) in
+            ap (type_of kinds (kind_of origins 0, 0)) (walk_made origins come_earlier c some made) ∙ (on b (o.across % 64) o.own (walk_to origins b) rest (first_type b made_b) ∙ (ap (λ d. type_of kinds d (replicate o.own R)) (sym from.across) ∙ type_rights kinds (kind_of origins c) o.own is_type))
       ]
 
   -- the walk of a dart leads to its type

@@ -1,10 +1,10 @@
 -- Turns in a cell: walks that are related stay related when both turn on, and the turns that lead a cell back to itself.
-use Rattle.std.proofs.Common.{◌≡◌, ℕ, zero, suc, ◌+◌, ◌-◌, ◌*◌, ◌/◌, ◌%◌, ◌<◌, ◌≤◌, List, [], ◌∷◌, ◌++◌, replicate, refl, sym, ap, ◌∙◌, subst, inl, inr, arith, append_assoc, mod-lt}
+use Rattle.std.proofs.Common.{◌≡◌, ℕ, zero, suc, ◌+◌, ◌-◌, ◌*◌, ◌/◌, ◌%◌, ◌≤◌, List, ◌++◌, replicate, refl, sym, ap, ◌∙◌, subst, arith, append_assoc}
 use Rattle.std.proofs.lemmas.List.{append-nil, replicate-append-replicate}
 use Rattle.std.proofs.Math.Nat.{mod-add-div}
 use Rattle.tile_model.specs.declared.Letter.{Letter}
-use Rattle.tile_model.specs.declared.Letter.TheVariants.{L, X}
-use Rattle.tile_model.proofs.Relations.{related_equal, related_same, related_back, related_on, related_behind}
+use Rattle.tile_model.specs.declared.Letter.TheVariants.{L}
+use Rattle.tile_model.proofs.Relations.{related_equal, related_back, related_on, related_behind}
 use Rattle.coincidence.specs.Atlases.{Atlas, AreOne, walk_of, HasPeriod}
 
 module _ (atlas : Atlas) where

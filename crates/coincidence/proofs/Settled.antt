@@ -1,13 +1,13 @@
 -- Packed darts: those of live cells below their turn, and those whose slots are taken.
-use Rattle.std.proofs.Common.{◌≡◌, ℕ, zero, suc, ◌+◌, ◌*◌, ◌/◌, ◌%◌, ◌<◌, ◌≤◌, List, length, refl, sym, ap, ap₂, ◌∙◌, subst, inl, inr, arith}
+use Rattle.std.proofs.Common.{◌≡◌, ℕ, ◌+◌, ◌*◌, ◌/◌, ◌%◌, ◌<◌, List, length, refl, sym, ap, ap₂, ◌∙◌, subst, inl, inr, arith}
 use Rattle.std.proofs.lemmas.List.{get_or_past}
 use Rattle.std.proofs.lemmas.Bool.{cases_lt}
 use Rattle.coincidence.specs.declared.table.Cell.{Cell}
 use Rattle.coincidence.specs.declared.table.Table.{Table}
 use Rattle.coincidence.specs.Darts.{nowhere, pack, unpack, slot_at, IsTaken}
-use Rattle.coincidence.specs.Cells.{no_cell, cell_at, turn_at, IsLive, name}
+use Rattle.coincidence.specs.Cells.{no_cell, turn_at, IsLive, name}
 use Rattle.coincidence.specs.Followed.{AreNamed, IsFollowed, IsSettled}
-use Rattle.coincidence.specs.Pending.{IsShaped, HasMoved}
+use Rattle.coincidence.specs.Pending.{IsShaped}
 use Rattle.coincidence.proofs.Names.{named}
 
 pub live_made : (cells : List Cell) (c : ℕ) → IsLive cells c → c < length cells

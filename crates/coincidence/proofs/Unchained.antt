@@ -1,8 +1,8 @@
 -- The first cell is taken from the chain: no other number changes.
-use Rattle.std.proofs.Common.{◌≡◌, ℕ, ◌+◌, ◌*◌, ◌/◌, ◌%◌, ◌<◌, ◌≤◌, ◌⊎◌, Bool, cond, nat_eq, List, length, sum_by, refl, sym, ap, ap₂, ◌∙◌, subst, inl, inr, arith, get_or-set_same, get_or-set_other}
+use Rattle.std.proofs.Common.{◌≡◌, ℕ, ◌*◌, ◌/◌, ◌%◌, ◌<◌, Bool, cond, nat_eq, List, length, refl, sym, ap, ap₂, ◌∙◌, subst, inl, inr, arith, get_or-set_same, get_or-set_other}
 use Rattle.std.proofs.lemmas.List.{length-set}
 use Rattle.std.proofs.lemmas.List.Sums.{sum_by-set}
-use Rattle.std.proofs.lemmas.Bool.{cases_eq, eq-eqb, ne_eqb}
+use Rattle.std.proofs.lemmas.Bool.{cases_eq, ne_eqb}
 use Rattle.std.proofs.Math.ListN.{set}
 use Rattle.std.proofs.Math.Nat.{mod_self, mod-mod}
 use Rattle.coincidence.specs.declared.table.Cell.{Cell}
@@ -10,8 +10,8 @@ use Rattle.coincidence.specs.declared.table.Table.{Table}
 use Rattle.coincidence.specs.Darts.{nowhere, slot_at, IsTaken}
 use Rattle.coincidence.specs.Cells.{no_cell, cell_at, turn_at, into_at, shift_at, IsLive, IsOrdered, live_count, name}
 use Rattle.coincidence.specs.Atlases.{Atlas, AreOne, walk_of, HasPeriod, LieAcross, IsSound}
-use Rattle.coincidence.specs.Followed.{AreNamed, HasFallen, IsFollowed}
-use Rattle.coincidence.specs.Pending.{last_link, next_at, IsChained, HasChain, IsPending, AreCovered, IsShaped, weight, work, HasUnchained}
+use Rattle.coincidence.specs.Followed.{AreNamed, IsFollowed}
+use Rattle.coincidence.specs.Pending.{last_link, next_at, HasChain, AreCovered, IsShaped, weight, work, HasUnchained}
 use Rattle.coincidence.proofs.Names.{name_live, Respects, names_compose}
 use Rattle.coincidence.proofs.Falls.{kept_names}
 use Rattle.coincidence.proofs.Chains.{chain_taken, chain_head}
@@ -23,9 +23,9 @@ abbrev link_weight : Bool → ℕ
 link_weight b = cond b 0 1
 
 module _ (t t' : Table) (shaped : IsShaped t) (some : ¬ (t.head ≡ last_link)) (x : Cell)
-  (was : x ≡ cell_at t.cells.items t.head)
-  (is : t'.cells.items ≡ set t.cells.items t.head (record { turn = x.turn; shift = x.shift; into = x.into; next = nowhere }))
-  (head_is : t'.head ≡ x.next) (live_is : t'.live ≡ t.live) (slots_are : t'.slots ≡ t.slots) where
+    (was : x ≡ cell_at t.cells.items t.head)
+    (is : t'.cells.items ≡ set t.cells.items t.head (record { turn = x.turn; shift = x.shift; into = x.into; next = nowhere }))
+    (head_is : t'.head ≡ x.next) (live_is : t'.live ≡ t.live) (slots_are : t'.slots ≡ t.slots) where
   abbrev cells : List Cell
   cells = t.cells.items
 
@@ -79,8 +79,8 @@ module _ (t t' : Table) (shaped : IsShaped t) (some : ¬ (t.head ≡ last_link))
         into = λ y gone. intos_same y;
         shift = λ y gone. shifts_same y;
         sides = λ y i live.
-          let live' : IsLive cells' y = subst (λ n. 0 < n) (sym (turns_same y)) live in
-          name_live cells' ordered' y (i % turn_at cells y) live' ∙ (ap (λ n. (y, i % turn_at cells y % n)) (turns_same y) ∙ (ap (λ j. (y, j)) (mod-mod i (turn_at cells y)) ∙ (ap (λ n. (y, i % n)) (sym (turns_same y)) ∙ sym (name_live cells' ordered' y i live'))));
+            let live' : IsLive cells' y = subst (λ n. 0 < n) (sym (turns_same y)) live in
+            name_live cells' ordered' y (i % turn_at cells y) live' ∙ (ap (λ n. (y, i % turn_at cells y % n)) (turns_same y) ∙ (ap (λ j. (y, j)) (mod-mod i (turn_at cells y)) ∙ (ap (λ n. (y, i % n)) (sym (turns_same y)) ∙ sym (name_live cells' ordered' y i live'))));
       } in
       let compose = names_compose cells cells' shaped.ordered ordered' respects in
       record {

@@ -1,5 +1,5 @@
 -- The cells of a table: which are live, which became which, how far sides are told apart, and what each dart is named.
-use Rattle.std.specs.Prelude.{◌≡◌, ℕ, zero, suc, ◌+◌, ◌%◌, ◌<◌, ◌≤◌, ◌==◌, List, slice_index_or, sum_by, Bool, if◌then◌else◌}
+use Rattle.std.specs.Prelude.{◌≡◌, ℕ, zero, suc, ◌+◌, ◌%◌, ◌<◌, ◌==◌, List, slice_index_or, sum_by, if◌then◌else◌}
 use Rattle.coincidence.specs.declared.table.Cell.{Cell}
 use Rattle.coincidence.specs.Darts.{nowhere}
 

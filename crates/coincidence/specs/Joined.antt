@@ -1,14 +1,13 @@
 -- What stands of a table between calls, and how a call changes it.
-use Rattle.std.specs.Prelude.{◌≡◌, ℕ, ◌+◌, ◌*◌, ◌/◌, ◌%◌, ◌<◌, ◌≤◌, ◌↔◌, List, [], ◌∷◌, ◌++◌, length, Option, None, Some}
+use Rattle.std.specs.Prelude.{◌≡◌, ℕ, ◌+◌, ◌%◌, ◌<◌, ◌≤◌, List, [], length, None, Some}
 use Rattle.tile_model.specs.Tessellations.{TileKind, kind_at, cross}
 use Rattle.tile_model.specs.Validity.{IsValid}
 use Rattle.tile_model.specs.Walks.{type_of}
 use Rattle.coincidence.specs.declared.origin.Origin.{Origin}
-use Rattle.coincidence.specs.declared.table.Cell.{Cell}
 use Rattle.coincidence.specs.declared.table.Table.{Table}
-use Rattle.coincidence.specs.Darts.{pack, unpack}
-use Rattle.coincidence.specs.Cells.{cell_at, turn_at, IsLive, live_count, name}
-use Rattle.coincidence.specs.Atlases.{AreOne, IsSound, walk_of}
+use Rattle.coincidence.specs.Darts.{unpack}
+use Rattle.coincidence.specs.Cells.{turn_at, IsLive, live_count, name}
+use Rattle.coincidence.specs.Atlases.{AreOne, IsSound}
 use Rattle.coincidence.specs.Followed.{AreNamed, HasFallen}
 use Rattle.coincidence.specs.Pending.{IsShaped, IsQuiet}
 use Rattle.coincidence.specs.Tables.{JoinTable, kind_of, origin_at, atlas, atlas_of, type_at, joined_to, dart_walk, ComesFrom, IsSoundTable}

@@ -1,9 +1,9 @@
 -- What still follows from renamings: darts that wait in the slots of sides past the turn, and the chain of the cells that hold them.
-use Rattle.std.specs.Prelude.{◌≡◌, ℕ, ◌+◌, ◌*◌, ◌/◌, ◌%◌, ◌<◌, ◌≤◌, ◌⊎◌, ◌==◌, List, [], ◌∷◌, ◌++◌, length, Bool, if◌then◌else◌, sum_by}
+use Rattle.std.specs.Prelude.{◌≡◌, ℕ, ◌+◌, ◌*◌, ◌/◌, ◌%◌, ◌<◌, ◌≤◌, ◌⊎◌, ◌==◌, List, [], ◌∷◌, ◌++◌, length, if◌then◌else◌, sum_by}
 use Rattle.coincidence.specs.declared.table.Cell.{Cell}
 use Rattle.coincidence.specs.declared.table.Table.{Table}
 use Rattle.coincidence.specs.Darts.{nowhere, slot_at, IsTaken}
-use Rattle.coincidence.specs.Cells.{cell_at, turn_at, into_at, shift_at, IsOrdered, live_count, IsLive}
+use Rattle.coincidence.specs.Cells.{cell_at, turn_at, shift_at, IsOrdered, live_count, IsLive}
 use Rattle.coincidence.specs.Atlases.{Atlas, IsSound}
 use Rattle.coincidence.specs.Followed.{IsFollowed}
 

@@ -1,14 +1,13 @@
 -- A table as its contracts see it: where its cells come from, what they became, and which darts are joined.
-use Rattle.std.specs.Prelude.{◌≡◌, ℕ, zero, suc, ◌+◌, ◌*◌, ◌/◌, ◌%◌, ◌<◌, ◌≤◌, ◌==◌, nat_lt, ◌&&◌, List, [], ◌∷◌, ◌++◌, length, replicate, slice_index_or, Option, None, Some, Bool, if◌then◌else◌}
+use Rattle.std.specs.Prelude.{◌≡◌, ℕ, zero, suc, ◌/◌, ◌%◌, ◌<◌, ◌==◌, nat_lt, ◌&&◌, List, [], ◌∷◌, ◌++◌, length, replicate, slice_index_or, Option, None, Some, if◌then◌else◌}
 use Rattle.tile_model.specs.declared.Letter.{Letter}
 use Rattle.tile_model.specs.declared.Letter.TheVariants.{L, R, X}
-use Rattle.tile_model.specs.Tessellations.{TileKind, kind_at, IsType, cross, sides}
-use Rattle.tile_model.specs.Validity.{IsValid}
+use Rattle.tile_model.specs.Tessellations.{TileKind, kind_at, cross}
 use Rattle.tile_model.specs.Relation.{AreRelated, AreAtSameTile}
 use Rattle.coincidence.specs.declared.origin.Origin.{Origin}
 use Rattle.coincidence.specs.declared.table.Cell.{Cell}
 use Rattle.coincidence.specs.Darts.{nowhere, pack, unpack, slot_at}
-use Rattle.coincidence.specs.Cells.{turn_at, into_at, IsLive, name}
+use Rattle.coincidence.specs.Cells.{turn_at, into_at, IsLive}
 use Rattle.coincidence.specs.Atlases.{Atlas, walk_of}
 
 -- The kinds of the tessellation, where each cell comes from, what the cells became, and the slots of their darts.

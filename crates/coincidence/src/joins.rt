@@ -80,7 +80,8 @@ impl<'t> Joins<'t> {
             own: over.residue,
             across: packed(near),
         })?;
-        self.table.link(packed(near), cell * WIDTH + over.residue as u32);
+        self.table
+            .link(packed(near), cell * WIDTH + over.residue as u32);
         Ok(cell)
     }
 
@@ -172,7 +173,11 @@ impl<'t> Joins<'t> {
         }
         let side = d.side % x.turn;
         let over = self.table.slots[packed(Dart { cell: d.cell, side }) as usize];
-        if over == NOWHERE { None } else { Some(unpacked(over)) }
+        if over == NOWHERE {
+            None
+        } else {
+            Some(unpacked(over))
+        }
     }
 
     /// Joins two darts of live cells, and all that follows from it. The walk of the first, followed by X, is to be related to the walk of
@@ -189,8 +194,14 @@ impl<'t> Joins<'t> {
         ensures table { IsTable self.new }
     {
         let before = self.table.live;
-        let x = packed(Dart { cell: a.cell, side: a.side % self.table.cells[a.cell as usize].turn });
-        let y = packed(Dart { cell: b.cell, side: b.side % self.table.cells[b.cell as usize].turn });
+        let x = packed(Dart {
+            cell: a.cell,
+            side: a.side % self.table.cells[a.cell as usize].turn,
+        });
+        let y = packed(Dart {
+            cell: b.cell,
+            side: b.side % self.table.cells[b.cell as usize].turn,
+        });
         self.table.join(x, y);
         before - self.table.live
     }

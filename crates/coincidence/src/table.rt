@@ -102,7 +102,11 @@ impl Table {
         ensures slots { self.new.slots ≡ self.old.slots }
     {
         let old = self.cells[cell as usize];
-        let next = if old.next == NOWHERE { self.head } else { old.next };
+        let next = if old.next == NOWHERE {
+            self.head
+        } else {
+            old.next
+        };
         if old.next == NOWHERE {
             self.head = cell;
         }

@@ -1,7 +1,6 @@
 -- The rest of the greater number by the lesser is divided, and is a period, with both.
-use Rattle.std.proofs.Common.{◌≡◌, ℕ, ◌%◌, subst, arith}
+use Rattle.std.proofs.Common.{arith}
 use Rattle.std.proofs.Math.Nat.{mod_self}
-use Rattle.coincidence.specs.Atlases.{Atlas, HasPeriod}
 use Rattle.coincidence.proofs.Numbers.{divides_whole, divisor_at_most, none_left}
 use Rattle.coincidence.proofs.Periods.{period_rest}
 use Rattle.coincidence.proofs.divisor.common_divisor.Goals as goal
@@ -13,8 +12,8 @@ loop-lesser-preserved c =
       positive = omega arith;
       divides = λ g lesser rest. h.divides g (divides_whole c.loop-lesser.greater c.loop-lesser.lesser g lesser rest) lesser;
       periods = λ atlas cell first second.
-        let both = h.periods atlas cell first second in
-        (both.1, period_rest atlas cell c.loop-lesser.greater c.loop-lesser.lesser both.0 both.1);
+          let both = h.periods atlas cell first second in
+          (both.1, period_rest atlas cell c.loop-lesser.greater c.loop-lesser.lesser both.0 both.1);
     }
 
 pub returns-clause-periods : goal.returns-clause-periods

@@ -1,5 +1,5 @@
 -- The slots that are added are empty.
-use Rattle.std.proofs.Common.{◌≡◌, ◌++◌, cond, ap, ◌∙◌, replicate}
+use Rattle.std.proofs.Common.{◌++◌, cond, ap, ◌∙◌, replicate}
 use Rattle.coincidence.specs.Darts.{nowhere, slot_at}
 use Rattle.coincidence.proofs.Empty.{slots_added}
 use Rattle.coincidence.proofs.table.add_empty.Goals as goal

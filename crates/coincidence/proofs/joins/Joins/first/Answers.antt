@@ -1,13 +1,13 @@
 -- One cell is added to a table of none.
-use Rattle.std.proofs.Common.{◌≡◌, ◌<◌, List, [], ◌∷◌, ◌++◌, length, refl, sym, ap, ◌∙◌, subst}
+use Rattle.std.proofs.Common.{◌≡◌, ◌<◌, List, [], ◌∷◌, ◌++◌, length, sym, ap, ◌∙◌, subst}
 use Rattle.std.proofs.lemmas.List.{get_or_read}
 use Rattle.tile_model.specs.Tessellations.{TileKind, kind_at, no_kind}
 use Rattle.tile_model.specs.Validity.{IsValid}
 use Rattle.coincidence.specs.declared.origin.Origin.{Origin}
 use Rattle.coincidence.specs.Pending.{IsExtended}
-use Rattle.coincidence.specs.Joined.{IsTable, IsKept}
+use Rattle.coincidence.specs.Joined.{IsKept}
 use Rattle.coincidence.proofs.Kept.{kept_table}
-use Rattle.coincidence.proofs.Made.{first_kept, first_is}
+use Rattle.coincidence.proofs.Made.{first_kept}
 use Rattle.coincidence.proofs.joins.Joins.first.Goals as goal
 
 kept : (c : goal.In_ok-extend) → IsKept c.args.t.now c.push.new.self.items c.extend.new.self

@@ -1,12 +1,12 @@
 -- The table joins the names of both darts.
-use Rattle.std.proofs.Common.{◌≡◌, ◌+◌, ◌-◌, ◌%◌, ◌≤◌, length, Some, refl, sym, ap, ◌∙◌, subst, arith}
+use Rattle.std.proofs.Common.{◌≡◌, sym, ap, ◌∙◌, subst, arith}
 use Rattle.std.proofs.lemmas.List.{get_or_read}
 use Rattle.coincidence.specs.declared.table.Cell.{Cell}
-use Rattle.coincidence.specs.Darts.{unpack, pack}
-use Rattle.coincidence.specs.Cells.{no_cell, cell_at, turn_at, IsLive, live_count, name}
+use Rattle.coincidence.specs.Darts.{unpack}
+use Rattle.coincidence.specs.Cells.{no_cell, cell_at, IsLive, live_count, name}
 use Rattle.coincidence.specs.Atlases.{LieAcross}
-use Rattle.coincidence.specs.Tables.{atlas, atlas_of, joined_in}
-use Rattle.coincidence.specs.Joined.{IsTable, IsKept, HasRenamed}
+use Rattle.coincidence.specs.Tables.{atlas, atlas_of}
+use Rattle.coincidence.specs.Joined.{IsKept, HasRenamed}
 use Rattle.coincidence.proofs.Settled.{live_made}
 use Rattle.coincidence.proofs.Kept.{kept_table, joined_kept, joined_renamed}
 use Rattle.coincidence.proofs.Calls.{side_name, side_settled, across_named, asked_joined, live_fewer}

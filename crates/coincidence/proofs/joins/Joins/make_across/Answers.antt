@@ -1,18 +1,14 @@
 -- A live cell is added, and joined across the dart.
-use Rattle.std.proofs.Common.{◌≡◌, ℕ, ◌+◌, ◌*◌, ◌<◌, ◌≤◌, List, [], ◌∷◌, ◌++◌, length, None, refl, sym, ap, ap₂, ◌∙◌, subst, arith}
-use Rattle.tile_model.specs.Tessellations.{TileKind, kind_at, cross}
+use Rattle.std.proofs.Common.{◌≡◌, ℕ, ◌+◌, ◌*◌, List, [], ◌∷◌, ◌++◌, length, None, refl, sym, ap, ap₂, ◌∙◌, subst, arith}
 use Rattle.coincidence.specs.declared.origin.Origin.{Origin}
-use Rattle.coincidence.specs.declared.table.Table.{Table}
-use Rattle.coincidence.specs.Darts.{nowhere, pack, unpack, slot_at}
-use Rattle.coincidence.specs.Cells.{IsLive, turn_at, name}
+use Rattle.coincidence.specs.Darts.{pack, unpack, slot_at}
 use Rattle.coincidence.specs.Atlases.{LieAcross, IsSound}
 use Rattle.coincidence.specs.Followed.{IsSettled}
-use Rattle.coincidence.specs.Pending.{IsShaped, IsExtended}
 use Rattle.coincidence.specs.Tables.{JoinTable, atlas_of, joined_in}
-use Rattle.coincidence.specs.Joined.{IsTable, IsKept, HasMade}
+use Rattle.coincidence.specs.Joined.{IsKept, HasMade}
 use Rattle.coincidence.proofs.Calls.{live_at_most}
 use Rattle.coincidence.proofs.Kept.{kept_table}
-use Rattle.coincidence.proofs.Made.{IsReady, ready, near_there, made_shaped, near_settled_after, over_settled_after, near_empty, over_empty, sound_after, lies_across, made_kept, made_is, kept_same}
+use Rattle.coincidence.proofs.Made.{ready, near_there, made_shaped, near_settled_after, over_settled_after, near_empty, over_empty, sound_after, lies_across, made_kept, made_is, kept_same}
 use Rattle.coincidence.proofs.joins.Joins.make_across.Goals as goal
 
 pub type_of-requires : goal.type_of-requires

@@ -1,5 +1,5 @@
 -- A period that both numbers of turns have in common.
-use Rattle.std.proofs.Common.{◌≡◌, ap, sym, subst, arith}
+use Rattle.std.proofs.Common.{◌≡◌, sym, subst, arith}
 use Rattle.std.proofs.lemmas.List.{get_or_read}
 use Rattle.coincidence.specs.declared.table.Cell.{Cell}
 use Rattle.coincidence.specs.Cells.{no_cell, cell_at}

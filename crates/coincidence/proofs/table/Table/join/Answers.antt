@@ -1,5 +1,4 @@
 -- One step, and then all that waits.
-use Rattle.std.proofs.Common.{◌≡◌, ◌∙◌}
 use Rattle.coincidence.proofs.Moves.{followed_on}
 use Rattle.coincidence.proofs.Anew.{named_after}
 use Rattle.coincidence.specs.Darts.{unpack}

@@ -1,6 +1,5 @@
 -- Both darts are named, and joined under their names.
-use Rattle.std.proofs.Common.{◌≡◌, ap, sym, ◌∙◌, ◌/◌, ◌%◌, subst}
-use Rattle.coincidence.specs.Followed.{IsSettled}
+use Rattle.std.proofs.Common.{◌/◌, ◌%◌}
 use Rattle.coincidence.proofs.Settled.{name_is_settled}
 use Rattle.coincidence.proofs.Anew.{anew_settled, anew_covered}
 use Rattle.coincidence.proofs.table.Table.join_anew.Goals as goal

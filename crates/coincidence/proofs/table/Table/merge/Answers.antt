@@ -1,5 +1,5 @@
 -- One cell folds, or the later of two becomes the earlier.
-use Rattle.std.proofs.Common.{◌≡◌, ◌+◌, ◌-◌, ◌/◌, ◌%◌, ◌<◌, ap, sym, ◌∙◌, subst, arith}
+use Rattle.std.proofs.Common.{◌/◌, ◌%◌, ◌<◌, ap, sym, ◌∙◌, subst, arith}
 use Rattle.coincidence.specs.Cells.{turn_at, name}
 use Rattle.coincidence.specs.Atlases.{AreOne, walk_of, HasPeriod}
 use Rattle.coincidence.proofs.Merges.{folded_together, period_apart}

@@ -8,7 +8,7 @@ invariant-loop-here l = record {
   here : l.here ≡ cell_at l.self.cells.items l.at;
   made : l.at < length l.self.cells.items;
   small : l.turned + 64 * l.at ≤ l.side + 64 * l.cell;
-  same : name l.self.cells.items (l.at, l.turned) ≡ name l.self.cells.items (l.cell, l.side)
+  same : name l.self.cells.items (l.at, l.turned) ≡ name l.self.cells.items (l.cell, l.side);
 }
 
 abbrev pub decreases-loop-here : goal.decreases-loop-here

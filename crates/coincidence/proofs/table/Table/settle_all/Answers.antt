@@ -1,6 +1,4 @@
 -- The cells of the chain, one after the other.
-use Rattle.std.proofs.Common.{◌≤◌, arith}
-use Rattle.coincidence.specs.Pending.{HasSettled}
 use Rattle.coincidence.proofs.Anew.{settled_same, settled_on, settled_taken}
 use Rattle.coincidence.proofs.table.Table.settle_all.Goals as goal
 

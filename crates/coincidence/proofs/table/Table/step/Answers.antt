@@ -1,7 +1,7 @@
 -- The dart that stands in a slot, as it is now named, and the other dart are made one.
-use Rattle.std.proofs.Common.{◌≡◌, ◌/◌, ◌%◌, ◌<◌, ◌*◌, length, ap, sym, ◌∙◌, subst, arith}
+use Rattle.std.proofs.Common.{◌≡◌, ◌/◌, ◌%◌, ap, ◌∙◌, arith}
 use Rattle.std.proofs.lemmas.List.{get_or_read}
-use Rattle.coincidence.specs.Darts.{nowhere, slot_at, IsTaken, unpack, pack}
+use Rattle.coincidence.specs.Darts.{nowhere, slot_at, unpack, pack}
 use Rattle.coincidence.specs.Cells.{name}
 use Rattle.coincidence.proofs.Settled.{settled_made, name_is_settled, named_by, named_back}
 use Rattle.coincidence.proofs.Links.{across_back}
