@@ -9,7 +9,8 @@ pub(crate) fn common_divisor(first: u8, second: u8) -> u8
     ensures at_most { result ≤ first }
     ensures of_first { first % result ≡ 0 }
     ensures of_second { second % result ≡ 0 }
-    ensures periods { (atlas : Atlas) (c : ℕ) → HasPeriod atlas c first → HasPeriod atlas c second → HasPeriod atlas c result }
+    ensures periods { (atlas : Atlas) (c : ℕ) → HasPeriod atlas c first → HasPeriod atlas c second
+        → HasPeriod atlas c result }
 {
     let mut greater = first;
     let mut lesser = second;

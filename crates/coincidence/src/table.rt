@@ -96,8 +96,10 @@ impl Table {
         requires cell { cell < length self.old.cells.items }
         requires live { turn ≡ 0 → 0 < self.old.live }
         ensures cells { self.new.cells.items
-            ≡ slice_set self.old.cells.items cell (written_cell (cell_at self.old.cells.items cell) turn into shift self.old.head) }
-        ensures head { self.new.head ≡ written_head (cell_at self.old.cells.items cell) cell self.old.head }
+            ≡ slice_set self.old.cells.items cell (written_cell
+            (cell_at self.old.cells.items cell) turn into shift self.old.head) }
+        ensures head { self.new.head ≡ written_head
+            (cell_at self.old.cells.items cell) cell self.old.head }
         ensures live { self.new.live ≡ (if turn == 0 then self.old.live - 1 else self.old.live) }
         ensures slots { self.new.slots ≡ self.old.slots }
     {
@@ -127,9 +129,11 @@ impl Table {
         requires may_fall { MayFall self.old.cells.items cell turn into shift }
         ensures moved { HasMoved self.old self.new }
         ensures cells { self.new.cells.items
-            ≡ slice_set self.old.cells.items cell (written_cell (cell_at self.old.cells.items cell) turn into shift self.old.head) }
+            ≡ slice_set self.old.cells.items cell (written_cell
+            (cell_at self.old.cells.items cell) turn into shift self.old.head) }
         ensures slots { self.new.slots ≡ self.old.slots }
-        ensures sound { (atlas : Atlas) → IsSound atlas self.old.cells.items self.old.slots.items → AllowsFall atlas cell turn into shift
+        ensures sound { (atlas : Atlas) → IsSound atlas self.old.cells.items self.old.slots.items
+            → AllowsFall atlas cell turn into shift
             → IsSound atlas self.new.cells.items self.new.slots.items }
     {
         self.write(cell, turn, into, shift);
@@ -143,9 +147,11 @@ impl Table {
         ensures moved { HasMoved self.old self.new }
         ensures live { IsLive self.new.cells.items cell }
         ensures divides { by % turn_at self.new.cells.items cell ≡ 0 }
-        ensures others { (c : ℕ) → c ≢ cell → cell_at self.new.cells.items c ≡ cell_at self.old.cells.items c }
+        ensures others { (c : ℕ) → c ≢ cell
+            → cell_at self.new.cells.items c ≡ cell_at self.old.cells.items c }
         ensures slots { self.new.slots ≡ self.old.slots }
-        ensures sound { (atlas : Atlas) → IsSound atlas self.old.cells.items self.old.slots.items → HasPeriod atlas cell by
+        ensures sound { (atlas : Atlas) → IsSound atlas self.old.cells.items self.old.slots.items
+            → HasPeriod atlas cell by
             → IsSound atlas self.new.cells.items self.new.slots.items }
     {
         let turn = self.cells[cell as usize].turn;
@@ -163,7 +169,8 @@ impl Table {
         requires side { i < turn_at self.old.cells.items later }
         requires other_side { j < turn_at self.old.cells.items earlier }
         ensures moved { HasMoved self.old self.new }
-        ensures together { name self.new.cells.items (later, i) ≡ name self.new.cells.items (earlier, j) }
+        ensures together { name self.new.cells.items (later, i) ≡ name self.new.cells.items
+            (earlier, j) }
         ensures slots { self.new.slots ≡ self.old.slots }
         ensures sound { (atlas : Atlas) → IsSound atlas self.old.cells.items self.old.slots.items
             → AreOne atlas (walk_of atlas (later, i)) (walk_of atlas (earlier, j))
@@ -182,7 +189,8 @@ impl Table {
         requires first { IsSettled self.old.cells.items x }
         requires second { IsSettled self.old.cells.items y }
         ensures moved { HasMoved self.old self.new }
-        ensures together { name self.new.cells.items (unpack x) ≡ name self.new.cells.items (unpack y) }
+        ensures together { name self.new.cells.items (unpack x) ≡ name self.new.cells.items
+            (unpack y) }
         ensures slots { self.new.slots ≡ self.old.slots }
         ensures sound { (atlas : Atlas) → IsSound atlas self.old.cells.items self.old.slots.items
             → AreOne atlas (walk_of atlas (unpack x)) (walk_of atlas (unpack y))
@@ -209,8 +217,10 @@ impl Table {
         ensures moved { HasMoved self.old self.new }
         ensures cells { self.new.cells ≡ self.old.cells }
         ensures slot { slot_at self.new.slots.items a ≡ b }
-        ensures others { (n : ℕ) → n ≢ a → n ≢ b → slot_at self.new.slots.items n ≡ slot_at self.old.slots.items n }
-        ensures sound { (atlas : Atlas) → IsSound atlas self.old.cells.items self.old.slots.items → LieAcross atlas (unpack a) (unpack b)
+        ensures others { (n : ℕ) → n ≢ a → n ≢ b
+            → slot_at self.new.slots.items n ≡ slot_at self.old.slots.items n }
+        ensures sound { (atlas : Atlas) → IsSound atlas self.old.cells.items self.old.slots.items
+            → LieAcross atlas (unpack a) (unpack b)
             → IsSound atlas self.new.cells.items self.new.slots.items }
     {
         self.slots[a as usize] = b;
@@ -223,9 +233,11 @@ impl Table {
         requires first { IsSettled self.old.cells.items a }
         requires second { IsSettled self.old.cells.items b }
         ensures moved { HasMoved self.old self.new }
-        ensures named { AreNamed self.new.cells.items self.new.slots.items (name self.new.cells.items (unpack a))
+        ensures named { AreNamed self.new.cells.items self.new.slots.items
+            (name self.new.cells.items (unpack a))
             (name self.new.cells.items (unpack b)) }
-        ensures sound { (atlas : Atlas) → IsSound atlas self.old.cells.items self.old.slots.items → LieAcross atlas (unpack a) (unpack b)
+        ensures sound { (atlas : Atlas) → IsSound atlas self.old.cells.items self.old.slots.items
+            → LieAcross atlas (unpack a) (unpack b)
             → IsSound atlas self.new.cells.items self.new.slots.items }
     {
         let over_a = self.slots[a as usize];
@@ -250,8 +262,10 @@ impl Table {
         ensures cells { self.new.cells ≡ self.old.cells }
         ensures empty { slot_at self.new.slots.items dart ≡ nowhere }
         ensures still { (n : ℕ) → IsTaken self.new.slots.items n
-            → IsTaken self.old.slots.items n × (slot_at self.new.slots.items n ≡ slot_at self.old.slots.items n) }
-        ensures only { (n : ℕ) → IsTaken self.old.slots.items n → (n ≡ dart) ⊎ ((n ≡ over) ⊎ IsTaken self.new.slots.items n) }
+            → IsTaken self.old.slots.items n × (slot_at self.new.slots.items n
+            ≡ slot_at self.old.slots.items n) }
+        ensures only { (n : ℕ) → IsTaken self.old.slots.items n
+            → (n ≡ dart) ⊎ ((n ≡ over) ⊎ IsTaken self.new.slots.items n) }
     {
         self.slots[dart as usize] = NOWHERE;
         self.slots[over as usize] = NOWHERE;
@@ -345,9 +359,11 @@ impl Table {
         ensures shaped { IsShaped self.new }
         ensures followed { IsFollowed self.old.cells.items self.old.slots.items self.new.cells.items self.new.slots.items }
         ensures quiet { IsQuiet self.new.cells.items self.new.slots.items }
-        ensures named { AreNamed self.new.cells.items self.new.slots.items (name self.new.cells.items (unpack a))
+        ensures named { AreNamed self.new.cells.items self.new.slots.items
+            (name self.new.cells.items (unpack a))
             (name self.new.cells.items (unpack b)) }
-        ensures sound { (atlas : Atlas) → IsSound atlas self.old.cells.items self.old.slots.items → LieAcross atlas (unpack a) (unpack b)
+        ensures sound { (atlas : Atlas) → IsSound atlas self.old.cells.items self.old.slots.items
+            → LieAcross atlas (unpack a) (unpack b)
             → IsSound atlas self.new.cells.items self.new.slots.items }
     {
         self.step(a, b);

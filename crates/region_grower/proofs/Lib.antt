@@ -9,3 +9,4 @@ pub mod Model
 pub mod Tiles
 pub mod Closing
 pub mod Starting
+pub mod Growing

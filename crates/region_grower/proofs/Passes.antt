@@ -1,5 +1,6 @@
 -- Passes, one after the other.
-use Rattle.std.proofs.Common.{◌≡◌, ℕ, ◌+◌, ◌<◌, ◌≤◌, ◌||◌, Bool, true, false, List, length, slice_index, sum, refl, sym, ap, ◌∙◌, subst, arith}
+use Rattle.std.proofs.Common.{◌≡◌, ℕ, ◌+◌, ◌<◌, ◌≤◌, ◌||◌, Bool, true, false, List, length, slice_index, sum, refl, sym, ap, ◌∙◌, subst, inl, inr, arith}
+use Rattle.std.proofs.lemmas.Bool.{cases_eq}
 use Rattle.coincidence.specs.Tables.{JoinTable}
 use Rattle.coincidence.specs.Joined.{IsTable}
 use Rattle.region_grower.specs.Regions.{unfinished, HasClosedOn, AreReached}
@@ -61,3 +62,13 @@ lowered_on {D} {E} {F} t r r' r'' false b both one two =
       unchanged = λ e. two.unchanged e ∙ same;
       done = λ e. both (one.done refl) (subst E same (two.done e));
     }
+
+pub lowered_as : {D E : List ℕ → Type 0} (t : JoinTable) (r r' : List ℕ) (a : Bool) → (D r → E r) → HasLowered t r r' a D → HasLowered t r r' a E
+lowered_as t r r' a on h = record { long = h.long; reached = h.reached; first = h.first; falls = h.falls; unchanged = h.unchanged; done = λ e. on (h.done e) }
+
+-- what holds of the cells before and of this one
+pub cells_more : (P : ℕ → ℕ → Type 0) (n : ℕ) → ((c i : ℕ) → c < n → P c i) → ((i : ℕ) → P n i) → (c i : ℕ) → c < n + 1 → P c i
+cells_more P n before here c i low = elim (cases_eq c n) [
+  | inl e ↦ subst (λ x. P x i) (sym e) (here i)
+  | inr other ↦ before c i (omega (arith, low, other))
+]

@@ -71,7 +71,8 @@ fn close(joins: &mut Joins, d: Dart) -> bool
 /// Closes the corner of a side of a cell, if it is a dart of a live cell. Answers whether darts were joined.
 fn close_side(joins: &mut Joins, cell: u32, side: u8) -> bool
     requires { IsTable joins.old }
-    ensures { HasPassed joins.old joins.new result (λ t. IsDart t (cell, side) → IsClosed t (cell, side)) }
+    ensures { HasPassed joins.old joins.new result (λ t. IsDart t (cell, side)
+        → IsClosed t (cell, side)) }
 {
     if joins.alive(cell) {
         if side < joins.turn(cell) {
@@ -84,7 +85,8 @@ fn close_side(joins: &mut Joins, cell: u32, side: u8) -> bool
 /// Closes the corners of a cell. Answers whether darts were joined.
 fn close_cell(joins: &mut Joins, cell: u32) -> bool
     requires { IsTable joins.old }
-    ensures { HasPassed joins.old joins.new result (λ t. (i : ℕ) → IsDart t (cell, i) → IsClosed t (cell, i)) }
+    ensures { HasPassed joins.old joins.new result (λ t. (i : ℕ) → IsDart t (cell, i)
+        → IsClosed t (cell, i)) }
 {
     let mut changed = false;
     for side in 0..64u8 {

@@ -1,5 +1,5 @@
 // What is left to do for a layer, and the cells that are made for it.
-ghost use Rattle.std.specs.Prelude.{◌≡◌, ◌≢◌, ℕ, ◌+◌, ◌<◌, ◌≤◌, length, slice_index, Option, None, IfNone, IfSome, IfOk, OnOk, vec_len};
+ghost use Rattle.std.specs.Prelude.{◌≡◌, ◌≢◌, ℕ, ◌+◌, ◌<◌, ◌≤◌, length, slice_index, true, false, Option, None, IfNone, IfSome, IfOk, OnOk, vec_len};
 ghost use Rattle.coincidence.specs.Cells.{IsLive, turn_at};
 ghost use Rattle.coincidence.specs.Tables.{JoinTable, joined_to};
 ghost use Rattle.coincidence.specs.Joined.{IsTable};
@@ -22,6 +22,17 @@ pub(crate) enum Answer {
     Open(Dart),
 }
 
+/// Whether a dart is not joined.
+fn is_open(joins: &Joins, d: Dart) -> bool
+    ensures opened { result ≡ true → joined_to joins.now d ≡ None }
+    ensures joined { result ≡ false → IsJoined joins.now d }
+{
+    match joins.joined(d) {
+        Some(over) => false,
+        None => true,
+    }
+}
+
 /// A dart of a cell that is live and not joined.
 fn open_side(joins: &Joins, cell: u32) -> Option<Dart>
     ensures none { IfNone result ((i : ℕ) → IsDart joins.now (cell, i) → IsJoined joins.now (cell, i)) }
@@ -32,10 +43,25 @@ fn open_side(joins: &Joins, cell: u32) -> Option<Dart>
     if joins.alive(cell) {
         for side in 0..joins.turn(cell) {
             let d = Dart { cell, side };
-            if joins.joined(d).is_none() {
+            if is_open(joins, d) {
                 return Some(d);
             }
         }
+    }
+    None
+}
+
+/// A dart of a cell that is live and not joined, if the radius of the cell is at most so much.
+fn open_near(joins: &Joins, radii: &[u32], cell: u32, within: u32) -> Option<Dart>
+    requires { cell < length radii.now }
+    ensures none { IfNone result ((i : ℕ) → IsDart joins.now (cell, i)
+        → slice_index radii.now cell ≤ within → IsJoined joins.now (cell, i)) }
+    ensures dart { IfSome result (IsDart joins.now) }
+    ensures unjoined { IfSome result (λ d. joined_to joins.now d ≡ None) }
+    ensures near { IfSome result (λ d. slice_index radii.now d.0 ≤ within) }
+{
+    if radii[cell as usize] <= within {
+        return open_side(joins, cell);
     }
     None
 }
@@ -44,19 +70,36 @@ fn open_side(joins: &Joins, cell: u32) -> Option<Dart>
 fn open_dart(joins: &Joins, radii: &[u32], within: u32) -> Option<Dart>
     requires table { IsTable joins.now }
     requires long { length joins.now.origins ≤ length radii.now }
-    ensures none { IfNone result ((d : ℕ × ℕ) → IsDart joins.now d → slice_index radii.now d.0 ≤ within → IsJoined joins.now d) }
+    ensures none { IfNone result ((d : ℕ × ℕ) → IsDart joins.now d
+        → slice_index radii.now d.0 ≤ within → IsJoined joins.now d) }
     ensures dart { IfSome result (IsDart joins.now) }
     ensures unjoined { IfSome result (λ d. joined_to joins.now d ≡ None) }
     ensures near { IfSome result (λ d. slice_index radii.now d.0 ≤ within) }
 {
     for cell in 0..joins.made() {
-        if radii[cell as usize] <= within {
-            if let Some(d) = open_side(joins, cell) {
-                return Some(d);
-            }
+        if let Some(d) = open_near(joins, radii, cell, within) {
+            return Some(d);
         }
     }
     None
+}
+
+/// The answer, or a dart across which a cell is to be made, where some dart is not joined.
+fn near_answer(joins: &Joins, radii: &[u32], far: Dart, within: u32, most: u32) -> Answer
+    requires table { IsTable joins.now }
+    requires long { length joins.now.origins ≤ length radii.now }
+    requires radii { AreRadii joins.now radii.now }
+    requires most { length joins.now.origins ≤ most }
+    requires far { IsDart joins.now far }
+    requires opened { joined_to joins.now far ≡ None }
+    ensures { IsAnswer joins.now within most result }
+{
+    match open_dart(joins, radii, within) {
+        None => Answer::Layer,
+        Some(d) => {
+            if joins.made() < most { Answer::Open(d) } else { Answer::Full }
+        }
+    }
 }
 
 /// The answer, or a dart across which a cell is to be made.
@@ -67,14 +110,9 @@ fn answer_of(joins: &Joins, radii: &[u32], within: u32, most: u32) -> Answer
     requires most { length joins.now.origins ≤ most }
     ensures { IsAnswer joins.now within most result }
 {
-    if open_dart(joins, radii, u32::MAX).is_none() {
-        return Answer::Closed;
-    }
-    match open_dart(joins, radii, within) {
-        None => Answer::Layer,
-        Some(d) => {
-            if joins.made() < most { Answer::Open(d) } else { Answer::Full }
-        }
+    match open_dart(joins, radii, FAR) {
+        None => Answer::Closed,
+        Some(far) => near_answer(joins, radii, far, within, most),
     }
 }
 
@@ -88,10 +126,12 @@ fn make(joins: &mut Joins, radii: &mut Vec<u32>, d: Dart, within: u32) -> Result
     requires long { length joins.old.origins ≤ vec_len radii.old }
     ensures table { IsTable joins.new }
     ensures long { length joins.new.origins ≤ vec_len radii.new }
+    ensures longer { vec_len radii.old ≤ vec_len radii.new }
     ensures made { HasMadeOn joins.old joins.new within }
     ensures more { OnOk result (length joins.new.origins ≡ length joins.old.origins + 1) }
     ensures at_most { length joins.new.origins ≤ length joins.old.origins + 1 }
-    ensures radii { (c : ℕ) → c < vec_len radii.old → slice_index radii.new.items c ≡ slice_index radii.old.items c }
+    ensures radii { (c : ℕ) → c < vec_len radii.old
+        → slice_index radii.new.items c ≡ slice_index radii.old.items c }
 {
     radii.push(FAR)?;
     joins.make_across(d)?;
@@ -108,11 +148,13 @@ fn make_side(joins: &mut Joins, radii: &mut Vec<u32>, d: Dart, within: u32, most
     requires long { length joins.old.origins ≤ vec_len radii.old }
     ensures table { IsTable joins.new }
     ensures long { length joins.new.origins ≤ vec_len radii.new }
+    ensures longer { vec_len radii.old ≤ vec_len radii.new }
     ensures made { HasMadeOn joins.old joins.new within }
     ensures at_most { length joins.new.origins ≤ most }
-    ensures radii { (c : ℕ) → c < vec_len radii.old → slice_index radii.new.items c ≡ slice_index radii.old.items c }
+    ensures radii { (c : ℕ) → c < vec_len radii.old
+        → slice_index radii.new.items c ≡ slice_index radii.old.items c }
 {
-    if joins.joined(d).is_none() {
+    if is_open(joins, d) {
         if joins.made() < most {
             return make(joins, radii, d, within);
         }
@@ -130,9 +172,11 @@ fn make_round(joins: &mut Joins, radii: &mut Vec<u32>, cell: u32, within: u32, m
     requires long { length joins.old.origins ≤ vec_len radii.old }
     ensures table { IsTable joins.new }
     ensures long { length joins.new.origins ≤ vec_len radii.new }
+    ensures longer { vec_len radii.old ≤ vec_len radii.new }
     ensures made { HasMadeOn joins.old joins.new within }
     ensures at_most { length joins.new.origins ≤ most }
-    ensures radii { (c : ℕ) → c < vec_len radii.old → slice_index radii.new.items c ≡ slice_index radii.old.items c }
+    ensures radii { (c : ℕ) → c < vec_len radii.old
+        → slice_index radii.new.items c ≡ slice_index radii.old.items c }
 {
     for side in 0..joins.turn(cell) {
         make_side(joins, radii, Dart { cell, side }, within, most)?;
@@ -143,15 +187,18 @@ fn make_round(joins: &mut Joins, radii: &mut Vec<u32>, cell: u32, within: u32, m
 /// Makes a cell across each side of a cell that is not joined, if the cell is live and near.
 fn make_near(joins: &mut Joins, radii: &mut Vec<u32>, cell: u32, within: u32, most: u32) -> Result<(), AllocError>
     requires table { IsTable joins.old }
-    requires near { IsLive joins.old.cells cell → slice_index radii.old.items cell ≤ within → IsWithin joins.old within cell }
+    requires near { IsLive joins.old.cells cell → slice_index radii.old.items cell ≤ within
+        → IsWithin joins.old within cell }
     requires most { most ≤ 1000000 }
     requires made { length joins.old.origins ≤ most }
     requires long { length joins.old.origins ≤ vec_len radii.old }
     ensures table { IsTable joins.new }
     ensures long { length joins.new.origins ≤ vec_len radii.new }
+    ensures longer { vec_len radii.old ≤ vec_len radii.new }
     ensures made { HasMadeOn joins.old joins.new within }
     ensures at_most { length joins.new.origins ≤ most }
-    ensures radii { (c : ℕ) → c < vec_len radii.old → slice_index radii.new.items c ≡ slice_index radii.old.items c }
+    ensures radii { (c : ℕ) → c < vec_len radii.old
+        → slice_index radii.new.items c ≡ slice_index radii.old.items c }
 {
     if joins.alive(cell) {
         if (cell as usize) < radii.len() && radii[cell as usize] <= within {
@@ -169,6 +216,7 @@ fn make_cells(joins: &mut Joins, radii: &mut Vec<u32>, d: Dart, within: u32, mos
     requires room { length joins.old.origins < most }
     ensures table { IsTable joins.new }
     ensures long { length joins.new.origins ≤ vec_len radii.new }
+    ensures longer { vec_len radii.old ≤ vec_len radii.new }
     ensures made { HasMadeOn joins.old joins.new within }
     ensures at_most { length joins.new.origins ≤ most }
     ensures more { OnOk result (length joins.old.origins < length joins.new.origins) }

@@ -50,7 +50,8 @@ fn relax_cell(joins: &Joins, radii: &mut [u32], cell: u32) -> bool
 fn relax_live(joins: &Joins, radii: &mut [u32], cell: u32) -> bool
     requires table { IsTable joins.now }
     requires long { length joins.now.origins ≤ length radii.old }
-    ensures { HasLowered joins.now radii.old radii.new result (λ rs. IsLive joins.now.cells cell → IsRelaxed joins.now rs cell) }
+    ensures { HasLowered joins.now radii.old radii.new result (λ rs. IsLive joins.now.cells cell
+        → IsRelaxed joins.now rs cell) }
 {
     if joins.alive(cell) {
         return relax_cell(joins, radii, cell);
@@ -62,7 +63,8 @@ fn relax_live(joins: &Joins, radii: &mut [u32], cell: u32) -> bool
 fn relax_each(joins: &Joins, radii: &mut [u32]) -> bool
     requires table { IsTable joins.now }
     requires long { length joins.now.origins ≤ length radii.old }
-    ensures { HasLowered joins.now radii.old radii.new result (λ rs. (c : ℕ) → IsLive joins.now.cells c → IsRelaxed joins.now rs c) }
+    ensures { HasLowered joins.now radii.old radii.new result (λ rs. (c : ℕ)
+        → IsLive joins.now.cells c → IsRelaxed joins.now rs c) }
 {
     let mut changed = false;
     for cell in 0..joins.made() {

@@ -4,4 +4,4 @@ use Rattle.region_grower.specs.Corners.{rounds}
 use Rattle.region_grower.proofs.corners.round.Given as goal
 
 abbrev pub invariant-loop-time : goal.invariant-loop-time
-invariant-loop-time l = record { come : rounds l.time l.joins l.d ≡ Some l.at; side : l.at.1 < 64 }
+invariant-loop-time l = record { come : rounds l.time l.joins l.fn.d ≡ Some l.at; side : l.at.1 < 64 }

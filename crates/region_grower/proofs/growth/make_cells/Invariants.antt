@@ -8,6 +8,7 @@ abbrev pub invariant-loop-cell : goal.invariant-loop-cell
 invariant-loop-cell l = record {
   table : IsTable l.joins;
   long : length l.joins.origins ≤ vec_len l.radii;
+  longer : vec_len l.fn.radii ≤ vec_len l.radii;
   made : HasMadeOn l.fn.joins l.joins l.within;
   at_most : length l.joins.origins ≤ l.most;
   more : length l.fn.joins.origins < length l.joins.origins;
