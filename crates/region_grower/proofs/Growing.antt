@@ -1,5 +1,5 @@
 -- What is near by its radius is near, and cells that are made leave darts and radii.
-use Rattle.std.proofs.Common.{◌≡◌, ℕ, ◌+◌, ◌<◌, ◌≤◌, List, length, slice_index, Option, Some, None, refl, sym, ap, ◌∙◌, subst, inl, inr, arith}
+use Rattle.std.proofs.Common.{◌≡◌, ℕ, zero, suc, ◌+◌, ◌<◌, ◌≤◌, List, length, slice_index, Option, Some, None, refl, sym, ap, ◌∙◌, subst, inl, inr, arith}
 use Rattle.std.proofs.lemmas.Bool.{cases_lt}
 use Rattle.std.proofs.Math.Nat.{mod-mod}
 use Rattle.coincidence.specs.Cells.{turn_at, IsLive, live_count, name}
@@ -8,11 +8,13 @@ use Rattle.coincidence.specs.Joined.{IsTable}
 use Rattle.region_grower.specs.Tiles.{HasTiles}
 use Rattle.region_grower.specs.Ways.{IsWay, IsWithin, IsRadius, AllWithin, IsDart, HasOpen, IsJoined, AllJoined}
 use Rattle.region_grower.specs.Corners.{AllClosed}
-use Rattle.region_grower.specs.Regions.{AreRadii, HasMadeOn, HasClosedOn, HasNear, RegionState, IsLayer, IsFull, IsClosedRegion, IsRegion}
-use Rattle.region_grower.specs.Answers.{IsOpenDart, AreInnerJoined, IsReady}
-use Rattle.region_grower.proofs.Ways.{way_to, named_dart, joined_named}
-use Rattle.region_grower.proofs.Left.{unnamed}
-use Rattle.region_grower.proofs.Count.{many_live}
+use Rattle.region_grower.specs.Regions.{total, AreRadii, HasMadeOn, HasClosedOn, HasNear, RegionState, IsLayer, IsFull, IsClosedRegion, IsRegion}
+use Rattle.region_grower.specs.Answers.{IsOpenDart, AreInnerJoined, IsAnswer, IsReady}
+use Rattle.region_grower.specs.declared.growth.Answer.{Answer}
+use Rattle.region_grower.specs.declared.growth.Answer.TheVariants.{Closed, Layer, Full, Open}
+use Rattle.region_grower.proofs.Ways.{zero_or_more, way_to, named_dart}
+use Rattle.region_grower.proofs.Left.{unnamed, total_none, total_next, total_le}
+use Rattle.region_grower.proofs.Count.{many_live, one_if, one_if_none, one_if_some, live_total}
 use Rattle.region_grower.proofs.Tiles.{closed_tiles}
 
 module _ (t : JoinTable) (table : IsTable t) (radii : List ℕ) (are : AreRadii t radii) where
@@ -103,3 +105,26 @@ region_is after n layers same le few ready = record {
   within = λ c live. let h = ready.within c live in record { crossings = h.crossings; at_most = omega (arith, h.at_most, le, same); way = h.way };
   few = omega (arith, few, same);
 }
+
+-- an answer that is none of the others is that no more cells may be made
+pub full_answer : (t : JoinTable) (n most : ℕ) (a : Answer) → ¬ (a ≡ Closed) → ¬ (a ≡ Layer) → ((d : ℕ × ℕ) → ¬ (a ≡ Open d)) → IsAnswer t n most a → IsAnswer t n most Full
+full_answer t n most Closed not_closed not_layer not_open answer = absurd (not_closed refl)
+full_answer t n most Layer not_closed not_layer not_open answer = absurd (not_layer refl)
+full_answer t n most Full not_closed not_layer not_open answer = answer
+full_answer t n most (Open d) not_closed not_layer not_open answer = absurd (not_open d refl)
+
+total_ones : (n : ℕ) → total n (λ _. 1) ≡ n
+total_ones zero = total_none (λ _. 1)
+total_ones (suc n) = omega (arith, total_next n (λ _. 1), total_ones n)
+
+one_at_most : (n : ℕ) → one_if n ≤ 1
+one_at_most n = elim (zero_or_more n) [
+  | inl e ↦ omega (arith, one_if_none n e)
+  | inr some ↦ omega (arith, one_if_some n some)
+]
+
+-- there are no more live cells than a million
+pub live_few : (t : JoinTable) → IsTable t → live_count t.cells ≤ 1000000
+live_few t table =
+    let less = total_le (length t.cells) (λ c. one_if (turn_at t.cells c)) (λ _. 1) (λ c _. one_at_most (turn_at t.cells c)) in
+    omega (arith, less, live_total t.cells, total_ones (length t.cells), table.count, table.few)

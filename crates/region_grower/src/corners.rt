@@ -35,7 +35,10 @@ fn round(joins: &Joins, d: Dart, times: u8) -> Option<Dart>
 {
     let mut at = d;
     for time in 0..times {
-        at = joins.joined(left(at))?;
+        match joins.joined(left(at)) {
+            Some(over) => at = over,
+            None => return None,
+        }
     }
     Some(at)
 }
