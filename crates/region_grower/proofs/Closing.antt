@@ -1,8 +1,8 @@
 -- A corner that is found closed, or is closed.
-use Rattle.std.proofs.Common.{◌≡◌, ℕ, zero, suc, ◌+◌, ◌-◌, ◌%◌, ◌<◌, ◌≤◌, Bool, true, false, List, length, Option, Some, None, option_and_then, refl, sym, ap, ◌∙◌, subst, arith, mod-lt}
+use Rattle.std.proofs.Common.{◌≡◌, ℕ, zero, suc, ◌+◌, ◌-◌, ◌<◌, ◌≤◌, true, length, Option, Some, None, option_and_then, sym, ap, ◌∙◌, arith, mod-lt}
 use Rattle.std.proofs.Common.{inl, inr}
 use Rattle.std.proofs.lemmas.Bool.{cases_eq}
-use Rattle.tile_model.specs.Tessellations.{kind_at, IsType, valence}
+use Rattle.tile_model.specs.Tessellations.{kind_at, IsType}
 use Rattle.coincidence.specs.Cells.{turn_at, IsLive, name}
 use Rattle.coincidence.specs.Atlases.{LieAcross}
 use Rattle.coincidence.specs.Tables.{JoinTable, joined_to, type_at, atlas, kind_of}
@@ -11,7 +11,7 @@ use Rattle.region_grower.specs.Ways.{IsDart}
 use Rattle.region_grower.specs.Corners.{left_of, further, rounds, valence_at, IsClosed}
 use Rattle.region_grower.specs.Passes.{HasPassed}
 use Rattle.region_grower.proofs.Ways.{dart_name}
-use Rattle.region_grower.proofs.Rounds.{rounds_dart, round_across}
+use Rattle.region_grower.proofs.Rounds.{round_across}
 use Rattle.region_grower.proofs.Left.{divides_le, closed_on, unfinished_lt}
 
 -- where a join is missing, none is found farther on

@@ -1,15 +1,15 @@
 -- The live cells, counted and listed; a cell at a distance is one of many.
-use Rattle.std.proofs.Common.{◌≡◌, ℕ, zero, suc, ◌+◌, ◌-◌, ◌<◌, ◌≤◌, ◌⊎◌, Bool, true, false, cond, nat_eq, nat_lt, List, [], ◌∷◌, ◌++◌, length, take, sum_by, slice_index, slice_index_or, get_or, Option, Some, None, refl, sym, ap, ◌∙◌, subst, inl, inr, arith}
+use Rattle.std.proofs.Common.{◌≡◌, ℕ, zero, suc, ◌+◌, ◌<◌, ◌≤◌, cond, nat_eq, nat_lt, List, length, take, sum_by, slice_index, sym, ap, ◌∙◌, subst, inl, inr, arith}
 use Rattle.std.proofs.lemmas.Bool.{cases_lt, cases_eq, lt-ltb, le-ltb, ne_eqb}
-use Rattle.std.proofs.lemmas.List.{take_all, length_push, get_or_push, get_or_append_left}
+use Rattle.std.proofs.lemmas.List.{take_all}
 use Rattle.std.proofs.lemmas.List.Sums.{sum_by_more}
 use Rattle.coincidence.specs.declared.table.Cell.{Cell}
-use Rattle.coincidence.specs.Cells.{no_cell, cell_at, turn_at, IsLive, live_count}
+use Rattle.coincidence.specs.Cells.{no_cell, turn_at, IsLive, live_count}
 use Rattle.coincidence.specs.Tables.{JoinTable}
 use Rattle.coincidence.specs.Joined.{IsTable}
-use Rattle.region_grower.specs.Ways.{IsWay, starts, crosses, IsRadius, IsDart}
+use Rattle.region_grower.specs.Ways.{IsWay, starts, crosses, IsRadius}
 use Rattle.region_grower.specs.Regions.{total, AreRadii}
-use Rattle.region_grower.proofs.Ways.{zero_or_more, over_dart}
+use Rattle.region_grower.proofs.Ways.{over_dart}
 use Rattle.region_grower.proofs.Left.{total_none, total_next, total_le, total_lt}
 
 -- one for a turn that is some

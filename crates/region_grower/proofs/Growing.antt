@@ -1,14 +1,12 @@
 -- What is near by its radius is near, and cells that are made leave darts and radii.
-use Rattle.std.proofs.Common.{◌≡◌, ℕ, zero, suc, ◌+◌, ◌<◌, ◌≤◌, List, length, slice_index, Option, Some, None, refl, sym, ap, ◌∙◌, subst, inl, inr, arith}
+use Rattle.std.proofs.Common.{◌≡◌, ℕ, zero, suc, ◌+◌, ◌<◌, ◌≤◌, List, length, slice_index, refl, sym, ap, ◌∙◌, subst, inl, inr, arith}
 use Rattle.std.proofs.lemmas.Bool.{cases_lt}
-use Rattle.std.proofs.Math.Nat.{mod-mod}
 use Rattle.coincidence.specs.Cells.{turn_at, IsLive, live_count, name}
-use Rattle.coincidence.specs.Tables.{JoinTable, joined_to, kind_of}
+use Rattle.coincidence.specs.Tables.{JoinTable, kind_of}
 use Rattle.coincidence.specs.Joined.{IsTable}
 use Rattle.region_grower.specs.Tiles.{HasTiles}
-use Rattle.region_grower.specs.Ways.{IsWay, IsWithin, IsRadius, AllWithin, IsDart, HasOpen, IsJoined, AllJoined}
-use Rattle.region_grower.specs.Corners.{AllClosed}
-use Rattle.region_grower.specs.Regions.{total, AreRadii, HasMadeOn, HasClosedOn, HasNear, RegionState, IsLayer, IsFull, IsClosedRegion, IsRegion}
+use Rattle.region_grower.specs.Ways.{IsWay, IsWithin, AllWithin, IsDart, HasOpen, IsJoined, AllJoined}
+use Rattle.region_grower.specs.Regions.{total, AreRadii, HasMadeOn, HasClosedOn, RegionState, IsLayer, IsFull, IsClosedRegion, IsRegion}
 use Rattle.region_grower.specs.Answers.{IsOpenDart, AreInnerJoined, IsAnswer, IsReady}
 use Rattle.region_grower.specs.declared.growth.Answer.{Answer}
 use Rattle.region_grower.specs.declared.growth.Answer.TheVariants.{Closed, Layer, Full, Open}
@@ -42,8 +40,8 @@ module _ (t : JoinTable) (table : IsTable t) (radii : List ℕ) (are : AreRadii 
       elim (cases_lt n r) [
         | inl far ↦ let many = many_live t table radii are r c (are c live) in omega (arith, many, far)
         | inr near ↦
-          let joined = inner (c, opened.side) opened.is_dart (within_radius n c live near) in
-          absurd (cc (joined.joined, opened.unjoined))
+            let joined = inner (c, opened.side) opened.is_dart (within_radius n c live near) in
+            absurd (cc (joined.joined, opened.unjoined))
       ]
 
 -- all sides of a cell are joined where its darts are

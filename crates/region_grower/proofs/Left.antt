@@ -1,5 +1,5 @@
 -- What is left of the darts falls where darts are joined that were not.
-use Rattle.std.proofs.Common.{◌≡◌, ℕ, zero, suc, ◌+◌, ◌%◌, ◌<◌, ◌≤◌, ◌⊎◌, Bool, true, false, cond, nat_lt, ◌==◌, if◌then◌else◌, List, length, Option, Some, None, refl, sym, ap, ap₂, ◌∙◌, subst, inl, inr, arith, mod-eq_of_lt}
+use Rattle.std.proofs.Common.{◌≡◌, ℕ, zero, suc, ◌+◌, ◌%◌, ◌<◌, ◌≤◌, cond, ◌==◌, if◌then◌else◌, length, Option, Some, None, refl, sym, ap, ◌∙◌, subst, inl, inr, arith}
 use Rattle.std.proofs.Math.Nat.{mod-mod, le_of_dvd, dvd_of_mod-eq-zero}
 use Rattle.std.proofs.lemmas.Bool.{cases_lt, cases_eq, lt-ltb, le-ltb}
 use Rattle.coincidence.specs.Cells.{turn_at, IsLive, name}
@@ -7,7 +7,7 @@ use Rattle.coincidence.specs.Tables.{JoinTable, joined_to, dart_in, kind_of}
 use Rattle.coincidence.specs.Darts.{pack, slot_at}
 use Rattle.tile_model.specs.Tessellations.{kind_at}
 use Rattle.coincidence.specs.Joined.{IsTable, HasRenamed}
-use Rattle.region_grower.specs.Ways.{IsDart, IsWithin}
+use Rattle.region_grower.specs.Ways.{IsDart}
 use Rattle.region_grower.specs.Regions.{total, left_of_join, left_at, unfinished, HasClosedOn}
 use Rattle.region_grower.proofs.Ways.{dart_name, named_dart, over_dart, within_renamed}
 
@@ -30,13 +30,13 @@ pub total_lt : (n : ℕ) (f g : ℕ → ℕ) → ((i : ℕ) → i < n → f i �
 total_lt zero f g le k below less = absurd (omega (arith, below))
 total_lt (suc n) f g le k below less = elim (cases_eq k n) [
   | inl e ↦
-    let rest = total_le n f g (λ i below. le i (omega arith)) in
-    let here = subst (λ x. f x < g x) e less in
-    omega (arith, total_next n f, total_next n g, rest, here)
+      let rest = total_le n f g (λ i below. le i (omega arith)) in
+      let here = subst (λ x. f x < g x) e less in
+      omega (arith, total_next n f, total_next n g, rest, here)
   | inr other ↦
-    let rest = total_lt n f g (λ i below. le i (omega arith)) k (omega (arith, below, other)) less in
-    let here = le n (omega arith) in
-    omega (arith, total_next n f, total_next n g, rest, here)
+      let rest = total_lt n f g (λ i below. le i (omega arith)) k (omega (arith, below, other)) less in
+      let here = le n (omega arith) in
+      omega (arith, total_next n f, total_next n g, rest, here)
 ]
 
 abbrev joined_at : JoinTable → ℕ → ℕ → Option (ℕ × ℕ)
@@ -144,10 +144,10 @@ module _ (t t' : JoinTable) (table : IsTable t) (table' : IsTable t') (renamed :
   less_joined x b dart_x dart_b not_yet joined None is = elim (cases_lt x.1 (turn_at t'.cells x.0)) [
     | inr past ↦ less_gone x dart_x past
     | inl below ↦
-      let here : joined_to t' x ≡ Some (name t'.cells b) = subst (λ d. joined_to t' d ≡ Some (name t'.cells b)) (still_named x.0 x.1 below) joined in
-      let one = at_joined t' x.0 x.1 (name t'.cells b) below here in
-      let two = at_dart t x.0 x.1 dart_x.below ∙ ap left_of_join is in
-      less_at x dart_x (omega (arith, one, two))
+        let here : joined_to t' x ≡ Some (name t'.cells b) = subst (λ d. joined_to t' d ≡ Some (name t'.cells b)) (still_named x.0 x.1 below) joined in
+        let one = at_joined t' x.0 x.1 (name t'.cells b) below here in
+        let two = at_dart t x.0 x.1 dart_x.below ∙ ap left_of_join is in
+        less_at x dart_x (omega (arith, one, two))
   ]
   less_joined x b dart_x dart_b not_yet joined (Some e) is =
       let apart : ¬ (e ≡ b) = λ same. not_yet (is ∙ ap Some same) in

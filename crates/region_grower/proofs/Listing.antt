@@ -1,13 +1,13 @@
 -- The live cells, listed each once.
-use Rattle.std.proofs.Common.{◌≡◌, ℕ, zero, suc, ◌+◌, ◌<◌, ◌≤◌, ◌⊎◌, List, [], ◌∷◌, ◌++◌, length, get_or, refl, sym, ap, ◌∙◌, subst, inl, inr, arith}
+use Rattle.std.proofs.Common.{◌≡◌, ℕ, zero, suc, ◌+◌, ◌<◌, List, [], ◌∷◌, ◌++◌, length, get_or, refl, sym, ap, ◌∙◌, subst, inl, inr, arith}
 use Rattle.std.proofs.lemmas.Bool.{cases_lt, cases_eq}
 use Rattle.std.proofs.lemmas.List.{length_push, get_or_push, get_or_append_left}
 use Rattle.coincidence.specs.declared.table.Cell.{Cell}
-use Rattle.coincidence.specs.Cells.{turn_at, IsLive, live_count}
+use Rattle.coincidence.specs.Cells.{turn_at, IsLive}
 use Rattle.region_grower.specs.Regions.{total}
 use Rattle.region_grower.proofs.Ways.{zero_or_more}
 use Rattle.region_grower.proofs.Left.{total_none, total_next}
-use Rattle.region_grower.proofs.Count.{one_if, one_if_none, one_if_some, live_total}
+use Rattle.region_grower.proofs.Count.{one_if, one_if_none, one_if_some}
 
 -- xs are the live cells below n, each once
 pub record IsListing (cells : List Cell) (n : ℕ) (xs : List ℕ) : Type 0 where
@@ -49,25 +49,28 @@ module _ (cells : List Cell) where
         found = λ c low live_c. elim (cases_eq c n) [
           | inl e ↦ (length xs, omega (arith, long), last ∙ sym e)
           | inr other ↦
-            let at = h.found c (omega (arith, low, other)) live_c in
-            let there = at.1 in
-            (at.0, omega (arith, long, there), old at.0 there ∙ at.2)
+              let at = h.found c (omega (arith, low, other)) live_c in
+              let there = at.1 in
+              (at.0, omega (arith, long, there), old at.0 there ∙ at.2)
         ];
         apart = λ i j there_i there_j same.
-          each (λ i x. x ≡ get_or ys j 0 → i ≡ j)
-          (λ e. each (λ j y. n ≡ y → length xs ≡ j) (λ _. refl) (λ j low f. absurd (let under = h.below j low in omega (arith, f, under))) j there_j e)
-          (λ i low e. each (λ j y. get_or xs i 0 ≡ y → i ≡ j) (λ f. absurd (let under = h.below i low in omega (arith, f, under))) (λ j low' f. h.apart i j low low' f) j there_j e)
-          i there_i same;
+            each (λ i x. x ≡ get_or ys j 0 → i ≡ j)
+            (λ e. each (λ j y. n ≡ y → length xs ≡ j) (λ _. refl) (λ j low f. absurd (let under = h.below j low in omega (arith, f, under))) j there_j e)
+            (λ i low e. each (λ j y. get_or xs i 0 ≡ y → i ≡ j) (λ f. absurd (let under = h.below i low in omega (arith, f, under))) (λ j low' f. h.apart i j low low' f) j there_j e)
+            i there_i same;
       }
 
   pub listing : (n : ℕ) → (xs : List ℕ) × IsListing cells n xs
-  listing zero = ([], record {
-    count = sym (total_none (λ c. one_if (turn_at cells c)));
-    live = λ i there. absurd (omega (arith, there));
-    below = λ i there. absurd (omega (arith, there));
-    found = λ c low live. absurd (omega (arith, low));
-    apart = λ i j there there' same. absurd (omega (arith, there));
-  })
+  listing zero = (
+    [],
+    record {
+      count = sym (total_none (λ c. one_if (turn_at cells c)));
+      live = λ i there. absurd (omega (arith, there));
+      below = λ i there. absurd (omega (arith, there));
+      found = λ c low live. absurd (omega (arith, low));
+      apart = λ i j there there' same. absurd (omega (arith, there));
+    },
+  )
   listing (suc n) = elim (zero_or_more (turn_at cells n)) [
     | inl gone ↦ let rest = listing n in (rest.0, passed n rest.0 gone rest.1)
     | inr live ↦ let rest = listing n in (rest.0 ++ n ∷ [], added n rest.0 live rest.1)

@@ -1,14 +1,14 @@
 -- Radii: where no radius is over one more than its neighbours', each is the least number of crossings.
-use Rattle.std.proofs.Common.{◌≡◌, ℕ, zero, suc, ◌+◌, ◌<◌, ◌≤◌, ◌⊎◌, List, length, slice_index, sum, sum_by, true, false, get_or-set_same, get_or-set_other, Option, Some, None, refl, sym, ap, ◌∙◌, subst, inl, inr, arith}
+use Rattle.std.proofs.Common.{◌≡◌, ℕ, suc, ◌+◌, ◌<◌, ◌≤◌, List, length, slice_index, sum, sum_by, true, get_or-set_same, get_or-set_other, Some, sym, ap, ◌∙◌, subst, inl, inr, arith}
 use Rattle.std.proofs.lemmas.Bool.{cases_lt, cases_eq}
 use Rattle.std.proofs.lemmas.List.{length-set, map-id}
 use Rattle.std.proofs.lemmas.List.Sums.{sum_by-set, sum-map}
 use Rattle.std.proofs.Math.ListN.{set}
 use Rattle.region_grower.specs.Passes.{HasLowered}
-use Rattle.coincidence.specs.Cells.{turn_at, IsLive, name}
+use Rattle.coincidence.specs.Cells.{IsLive, name}
 use Rattle.coincidence.specs.Tables.{JoinTable, joined_to}
 use Rattle.coincidence.specs.Joined.{IsTable}
-use Rattle.region_grower.specs.Ways.{IsWay, starts, crosses, IsRadius, IsDart}
+use Rattle.region_grower.specs.Ways.{IsWay, starts, crosses}
 use Rattle.region_grower.specs.Regions.{AreRadii, AreReached, IsRelaxed}
 use Rattle.region_grower.proofs.Ways.{zero_or_more, own_cell, way_to, joined_named, over_dart}
 
@@ -65,11 +65,11 @@ lowers t radii d e table long joined near less =
       long = length-set radii e.0 (r + 1);
       reached = λ reached c made close. elim (cases_eq c e.0) [
         | inl same ↦
-          let at : slice_index (set radii e.0 (r + 1)) c ≡ r + 1 = ap (slice_index (set radii e.0 (r + 1))) same ∙ get_or-set_same radii e.0 (r + 1) 0 (omega (arith, there', long)) in
-          subst (λ n. IsWay t n c) (sym at) (subst (IsWay t (r + 1)) (sym same) (subst (λ n. IsWay t n e.0) next (crosses r d e (reached d.0 (omega (arith, there, long)) near) joined)))
+            let at : slice_index (set radii e.0 (r + 1)) c ≡ r + 1 = ap (slice_index (set radii e.0 (r + 1))) same ∙ get_or-set_same radii e.0 (r + 1) 0 (omega (arith, there', long)) in
+            subst (λ n. IsWay t n c) (sym at) (subst (IsWay t (r + 1)) (sym same) (subst (λ n. IsWay t n e.0) next (crosses r d e (reached d.0 (omega (arith, there, long)) near) joined)))
         | inr other ↦
-          let at : slice_index (set radii e.0 (r + 1)) c ≡ slice_index radii c = get_or-set_other radii e.0 c (r + 1) 0 other in
-          subst (λ n. IsWay t n c) (sym at) (reached c (omega (arith, made, length-set radii e.0 (r + 1))) (omega (arith, close, at)))
+            let at : slice_index (set radii e.0 (r + 1)) c ≡ slice_index radii c = get_or-set_other radii e.0 c (r + 1) 0 other in
+            subst (λ n. IsWay t n c) (sym at) (reached c (omega (arith, made, length-set radii e.0 (r + 1))) (omega (arith, close, at)))
       ];
       first = λ zero. get_or-set_other radii e.0 0 (r + 1) 0 (λ same. let at = ap (slice_index radii) same in omega (arith, at, zero, less)) ∙ zero;
       falls = λ _. omega (arith, sum_set radii e.0 (r + 1) (omega (arith, there', long)), less);

@@ -1,15 +1,15 @@
 -- A closed table is a model: each letter leads from dart to dart, each loop leads back, so related walks lead to one dart.
-use Rattle.std.proofs.Common.{◌≡◌, ℕ, zero, suc, ◌+◌, ◌-◌, ◌*◌, ◌%◌, ◌<◌, ◌≤◌, List, [], ◌∷◌, ◌++◌, length, replicate, Option, Some, None, option_and_then, unwrap_or, refl, sym, ap, ap₂, ◌∙◌, subst, inl, inr, arith, append_assoc, mod-lt, mod-eq_of_lt, add-zero}
+use Rattle.std.proofs.Common.{◌≡◌, ℕ, zero, suc, ◌+◌, ◌-◌, ◌%◌, ◌<◌, List, [], ◌∷◌, ◌++◌, length, replicate, Some, option_and_then, unwrap_or, refl, sym, ap, ◌∙◌, subst, arith, append_assoc, mod-lt, mod-eq_of_lt, add-zero}
 use Rattle.std.proofs.Math.Nat.{mod-add-mod, add-mod-mod, add-mod_right, zero-mod}
 use Rattle.std.proofs.lemmas.List.{append-nil, replicate_more}
 use Rattle.tile_model.specs.declared.Letter.{Letter}
 use Rattle.tile_model.specs.declared.Letter.TheVariants.{L, R, X}
-use Rattle.tile_model.specs.Tessellations.{TileKind, kind_at, IsType, left, right, cross, sides, valence}
+use Rattle.tile_model.specs.Tessellations.{kind_at, IsType, left, right, cross}
 use Rattle.tile_model.specs.Walks.{step, type_of, times}
-use Rattle.tile_model.specs.Relation.{IsLoop, there_and_back, left_and_right, right_and_left, full_turn, round_corner, AreRelated, AreAtSameTile}
+use Rattle.tile_model.specs.Relation.{IsLoop, there_and_back, left_and_right, right_and_left, full_turn, round_corner, AreRelated}
 use Rattle.tile_model.proofs.Types.{type_append, right_left, left_is}
-use Rattle.tile_model.proofs.Relations.{HoldsOfLoops, related_holds, related_equal, related_same, related_back, related_on, related_behind, related_before, related_type, loop_empty}
-use Rattle.coincidence.specs.Cells.{turn_at, IsLive, name}
+use Rattle.tile_model.proofs.Relations.{HoldsOfLoops, related_holds, related_equal, related_back, related_on, related_behind, related_before, related_type, loop_empty}
+use Rattle.coincidence.specs.Cells.{turn_at, name}
 use Rattle.coincidence.specs.Tables.{JoinTable, joined_to, type_at, dart_walk, kind_of, atlas}
 use Rattle.coincidence.specs.Joined.{IsTable}
 use Rattle.region_grower.specs.Ways.{IsWay, starts, crosses, IsDart, IsJoined}
@@ -172,11 +172,11 @@ module _ (t : JoinTable) (table : IsTable t) (joined : (d : ℕ × ℕ) → IsDa
     turns = λ u w e. sym e;
     joins = λ u v w e f. e ∙ f;
     inserted = λ before behind j loop is_loop.
-      let d = place origin before in
-      let dart_d = place_dart origin before origin_dart in
-      let type : type_of t.kinds start before ≡ type_at t d = ap (λ e. type_of t.kinds e before) (sym origin_type) ∙ sym (place_type origin before origin_dart) in
-      let home = loop_home d dart_d (subst (λ e. IsLoop t.kinds e j loop) type is_loop) in
-      place_append origin before behind ∙ (ap (λ e. place e behind) (sym home) ∙ (sym (place_append d loop behind) ∙ sym (place_append origin before (loop ++ behind))));
+        let d = place origin before in
+        let dart_d = place_dart origin before origin_dart in
+        let type : type_of t.kinds start before ≡ type_at t d = ap (λ e. type_of t.kinds e before) (sym origin_type) ∙ sym (place_type origin before origin_dart) in
+        let home = loop_home d dart_d (subst (λ e. IsLoop t.kinds e j loop) type is_loop) in
+        place_append origin before behind ∙ (ap (λ e. place e behind) (sym home) ∙ (sym (place_append d loop behind) ∙ sym (place_append origin before (loop ++ behind))));
   }
 
   pub related_place : {u w : List Letter} → AreRelated t.kinds start u w → place origin u ≡ place origin w

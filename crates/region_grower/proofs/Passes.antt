@@ -1,9 +1,9 @@
 -- Passes, one after the other.
-use Rattle.std.proofs.Common.{◌≡◌, ℕ, ◌+◌, ◌<◌, ◌≤◌, ◌||◌, Bool, true, false, List, length, slice_index, sum, refl, sym, ap, ◌∙◌, subst, inl, inr, arith}
+use Rattle.std.proofs.Common.{◌≡◌, ℕ, ◌+◌, ◌<◌, ◌≤◌, ◌||◌, Bool, true, false, List, sum, refl, sym, ap, ◌∙◌, subst, inl, inr, arith}
 use Rattle.std.proofs.lemmas.Bool.{cases_eq}
 use Rattle.coincidence.specs.Tables.{JoinTable}
 use Rattle.coincidence.specs.Joined.{IsTable}
-use Rattle.region_grower.specs.Regions.{unfinished, HasClosedOn, AreReached}
+use Rattle.region_grower.specs.Regions.{unfinished}
 use Rattle.region_grower.specs.Passes.{HasPassed, HasLowered}
 use Rattle.region_grower.proofs.Left.{closed_on_same, closed_on_both}
 

@@ -1,19 +1,18 @@
 -- Round a corner: the walk of the dart come to, and that the last step leads back.
-use Rattle.std.proofs.Common.{◌≡◌, ℕ, zero, suc, ◌+◌, ◌-◌, ◌%◌, ◌<◌, ◌≤◌, List, [], ◌∷◌, ◌++◌, length, replicate, Option, Some, None, option_and_then, refl, sym, ap, ap₂, ◌∙◌, subst, inl, inr, arith, append_assoc}
+use Rattle.std.proofs.Common.{◌≡◌, ℕ, zero, suc, ◌+◌, ◌<◌, List, [], ◌∷◌, ◌++◌, length, replicate, Option, Some, None, option_and_then, refl, sym, ap, ◌∙◌, subst, append_assoc}
 use Rattle.std.proofs.lemmas.List.{append-nil, replicate_more}
 use Rattle.tile_model.specs.declared.Letter.{Letter}
-use Rattle.tile_model.specs.declared.Letter.TheVariants.{L, R, X}
-use Rattle.tile_model.specs.Tessellations.{TileKind, valence}
+use Rattle.tile_model.specs.declared.Letter.TheVariants.{L, X}
+use Rattle.tile_model.specs.Tessellations.{valence}
 use Rattle.tile_model.specs.Walks.{type_of, times}
 use Rattle.tile_model.specs.Relation.{AreRelated, round_corner}
-use Rattle.tile_model.proofs.Relations.{related_equal, related_same, related_back, related_on, related_behind, related_before, loop_empty}
-use Rattle.coincidence.specs.Cells.{turn_at, IsLive, name}
-use Rattle.coincidence.specs.Atlases.{AreOne, LieAcross}
-use Rattle.coincidence.specs.Tables.{JoinTable, joined_to, type_at, dart_walk, kind_of, atlas}
+use Rattle.tile_model.proofs.Relations.{related_equal, related_back, related_on, related_behind, related_before, loop_empty}
+use Rattle.coincidence.specs.Atlases.{LieAcross}
+use Rattle.coincidence.specs.Tables.{JoinTable, dart_walk, kind_of, atlas}
 use Rattle.coincidence.specs.Joined.{IsTable}
 use Rattle.region_grower.specs.Ways.{IsDart}
-use Rattle.region_grower.specs.Corners.{left_of, further, rounds, valence_at, IsClosed}
-use Rattle.region_grower.proofs.Ways.{over_dart, dart_name}
+use Rattle.region_grower.specs.Corners.{left_of, further, rounds, valence_at}
+use Rattle.region_grower.proofs.Ways.{over_dart}
 
 abbrev pub round : List Letter
 round = L ∷ X ∷ []

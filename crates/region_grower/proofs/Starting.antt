@@ -1,9 +1,9 @@
 -- The region of one cell.
-use Rattle.std.proofs.Common.{◌≡◌, ℕ, ◌+◌, ◌<◌, ◌≤◌, List, [], ◌∷◌, length, slice_index, refl, sym, ap, ◌∙◌, subst, arith}
+use Rattle.std.proofs.Common.{◌≡◌, ℕ, List, [], ◌∷◌, length, slice_index, sym, ap, subst, arith}
 use Rattle.coincidence.specs.Cells.{IsLive}
 use Rattle.coincidence.specs.Tables.{JoinTable}
 use Rattle.coincidence.specs.Joined.{IsTable}
-use Rattle.region_grower.specs.Ways.{IsWay, starts, IsWithin, IsRadius}
+use Rattle.region_grower.specs.Ways.{starts, IsWithin, IsRadius}
 use Rattle.region_grower.specs.Regions.{IsRegion}
 
 pub start_region : (t : JoinTable) (radii : List ℕ) → IsTable t → length t.origins ≡ 1 → radii ≡ 0 ∷ [] → IsRegion (record { table = t; radii = radii; layers = 0 })

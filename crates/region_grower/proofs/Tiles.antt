@@ -1,22 +1,21 @@
 -- The tiles of a closed table are as many as its live cells.
-use Rattle.std.proofs.Common.{◌≡◌, ℕ, ◌+◌, ◌%◌, ◌<◌, ◌≤◌, List, [], ◌∷◌, ◌++◌, length, map, get_or, replicate, refl, sym, ap, ◌∙◌, subst, inl, inr, arith}
+use Rattle.std.proofs.Common.{◌≡◌, ℕ, ◌<◌, List, [], ◌++◌, length, map, get_or, replicate, sym, ap, ◌∙◌, subst, arith}
 use Rattle.std.proofs.lemmas.List.{length-map, get_or-map, append-nil}
 use Rattle.tile_model.specs.declared.Letter.{Letter}
-use Rattle.tile_model.specs.declared.Letter.TheVariants.{L, R, X}
+use Rattle.tile_model.specs.declared.Letter.TheVariants.{L}
 use Rattle.tile_model.specs.Tessellations.{kind_at, sides}
-use Rattle.tile_model.specs.Walks.{type_of}
 use Rattle.tile_model.specs.Relation.{AreRelated, AreAtSameTile}
 use Rattle.tile_model.proofs.Relations.{related_equal, related_back, related_on}
 use Rattle.coincidence.specs.Cells.{turn_at, IsLive, live_count, name}
-use Rattle.coincidence.specs.Tables.{JoinTable, joined_to, type_at, dart_walk, kind_of, atlas}
+use Rattle.coincidence.specs.Tables.{JoinTable, dart_walk, kind_of, atlas}
 use Rattle.coincidence.specs.Joined.{IsTable}
 use Rattle.region_grower.specs.Ways.{IsDart, IsJoined}
 use Rattle.region_grower.specs.Corners.{AllClosed}
 use Rattle.region_grower.specs.Tiles.{walk_at, HasTiles}
-use Rattle.region_grower.proofs.Ways.{dart_name, named_dart}
+use Rattle.region_grower.proofs.Ways.{named_dart}
 use Rattle.region_grower.proofs.Left.{divides_le}
 use Rattle.region_grower.proofs.Count.{live_total}
-use Rattle.region_grower.proofs.Listing.{IsListing, listing}
+use Rattle.region_grower.proofs.Listing.{listing}
 use Rattle.region_grower.proofs.Model.{place, place_dart, origin_dart, related_place, walk_placed, dart_placed}
 
 module _ (t : JoinTable) (table : IsTable t) (joined : (d : ℕ × ℕ) → IsDart t d → IsJoined t d) (closed : AllClosed t) where
@@ -48,12 +47,15 @@ module _ (t : JoinTable) (table : IsTable t) (joined : (d : ℕ × ℕ) → IsDa
       let short = divides_le (kind_at t.kinds (kind_of t.origins d.0)).sides (turn_at t.cells d.0) (let three = wide.0 in omega (arith, three)) (table.turns d.0 is_dart.live) in
       let below = is_dart.below in
       let type = table.walk_type (d.0, 0) made in
-      let turned : cell_walk d.0 ++ replicate d.1 L ≡ dart_walk t d = ap (λ u. u ++ replicate d.1 L) (append-nil ((atlas t).walk_to d.0)) in
-      (d.0, is_dart.live, record {
-        turns = d.1;
-        fewer = subst (λ e. d.1 < sides t.kinds e) (sym type) (omega (arith, below, short));
-        related = related_on t.kinds (related_equal t.kinds turned) (walk_placed t table joined closed w);
-      })
+      let turned : cell_walk d.0 ++ replicate d.1 L ≡ dart_walk t d = ap (λ u. u ++ replicate d.1 L) (append-nil ((atlas t).walk_to d.0)) in (
+        d.0,
+        is_dart.live,
+        record {
+          turns = d.1;
+          fewer = subst (λ e. d.1 < sides t.kinds e) (sym type) (omega (arith, below, short));
+          related = related_on t.kinds (related_equal t.kinds turned) (walk_placed t table joined closed w);
+        },
+      )
 
   pub closed_tiles : HasTiles t.kinds (kind_of t.origins 0, 0) (live_count t.cells)
   closed_tiles =
@@ -67,13 +69,13 @@ module _ (t : JoinTable) (table : IsTable t) (joined : (d : ℕ × ℕ) → IsDa
         walks = walks;
         count = length-map xs cell_walk ∙ n;
         whole = λ w.
-          let tile = some_tile w in
-          let made = table.live_made tile.0 tile.1 in
-          let found = h.found tile.0 (omega (arith, made, table.count)) tile.1 in
-          (found.0, omega (arith, found.1, n), subst (λ u. AreAtSameTile t.kinds (kind_of t.origins 0, 0) u w) (sym (at found.0 found.1 ∙ ap cell_walk found.2)) tile.2);
+            let tile = some_tile w in
+            let made = table.live_made tile.0 tile.1 in
+            let found = h.found tile.0 (omega (arith, made, table.count)) tile.1 in
+            (found.0, omega (arith, found.1, n), subst (λ u. AreAtSameTile t.kinds (kind_of t.origins 0, 0) u w) (sym (at found.0 found.1 ∙ ap cell_walk found.2)) tile.2);
         apart = λ i j low low' same.
-          let there : i < length xs = omega (arith, low, n) in
-          let there' : j < length xs = omega (arith, low', n) in
-          let one = subst (λ u. AreAtSameTile t.kinds (kind_of t.origins 0, 0) u (cell_walk (get_or xs j 0))) (at i there) (subst (AreAtSameTile t.kinds (kind_of t.origins 0, 0) (walk_at walks i)) (at j there') same) in
-          h.apart i j there there' (one_tile (get_or xs i 0) (get_or xs j 0) (h.live i there) (h.live j there') one);
+            let there : i < length xs = omega (arith, low, n) in
+            let there' : j < length xs = omega (arith, low', n) in
+            let one = subst (λ u. AreAtSameTile t.kinds (kind_of t.origins 0, 0) u (cell_walk (get_or xs j 0))) (at i there) (subst (AreAtSameTile t.kinds (kind_of t.origins 0, 0) (walk_at walks i)) (at j there') same) in
+            h.apart i j there there' (one_tile (get_or xs i 0) (get_or xs j 0) (h.live i there) (h.live j there') one);
       }

@@ -1,10 +1,10 @@
 -- Ways through joined darts, where cells are renamed and where one is made.
-use Rattle.std.proofs.Common.{◌≡◌, ℕ, zero, suc, ◌+◌, ◌/◌, ◌%◌, ◌<◌, ◌≤◌, ◌⊎◌, List, length, Option, Some, None, refl, sym, ap, ap₂, ◌∙◌, subst, inl, inr, arith, mod-eq_of_lt}
+use Rattle.std.proofs.Common.{◌≡◌, ℕ, zero, suc, ◌/◌, ◌%◌, ◌<◌, ◌≤◌, ◌⊎◌, Some, None, refl, sym, ap, ◌∙◌, subst, inl, inr, arith, mod-eq_of_lt}
 use Rattle.std.proofs.lemmas.Bool.{cases_lt}
-use Rattle.coincidence.specs.Cells.{turn_at, IsLive, name}
+use Rattle.coincidence.specs.Cells.{IsLive, name}
 use Rattle.coincidence.specs.Tables.{JoinTable, joined_to, origin_at}
 use Rattle.coincidence.specs.Joined.{IsTable, HasRenamed, HasMade}
-use Rattle.region_grower.specs.Ways.{IsWay, starts, crosses, IsWithin, IsRadius, AllWithin, IsDart}
+use Rattle.region_grower.specs.Ways.{IsWay, starts, crosses, IsWithin, IsDart}
 use Rattle.region_grower.specs.Regions.{HasMadeOn}
 
 pub zero_or_more : (n : ℕ) → (n ≡ 0) ⊎ (0 < n)
@@ -38,15 +38,15 @@ module _ (t : JoinTable) (table : IsTable t) where
       go (suc bound) c h live = elim (zero_or_more c) [
         | inl e ↦ (0, omega arith, subst (IsWay t 0) (sym e) starts)
         | inr some ↦
-          let made = table.live_made c live in
-          let from = table.come c some made in
-          let o = origin_at t.origins c in
-          let near = name t.cells (o.across / 64, o.across % 64) in
-          let named = table.named (o.across / 64, o.across % 64) in
-          let before = from.earlier in
-          let at = named.earlier in
-          let rest = go bound near.0 (omega (arith, before, at, h)) named.live in
-          (suc rest.0, omega (arith, rest.1, before, at), subst (IsWay t (suc rest.0)) (own_cell c o.own live) (crosses rest.0 near (name t.cells (c, o.own)) rest.2 (table.met c some made)))
+            let made = table.live_made c live in
+            let from = table.come c some made in
+            let o = origin_at t.origins c in
+            let near = name t.cells (o.across / 64, o.across % 64) in
+            let named = table.named (o.across / 64, o.across % 64) in
+            let before = from.earlier in
+            let at = named.earlier in
+            let rest = go bound near.0 (omega (arith, before, at, h)) named.live in
+            (suc rest.0, omega (arith, rest.1, before, at), subst (IsWay t (suc rest.0)) (own_cell c o.own live) (crosses rest.0 near (name t.cells (c, o.own)) rest.2 (table.met c some made)))
       ]
 
 pub within_more : (t : JoinTable) (m n c : ℕ) → m ≤ n → IsWithin t m c → IsWithin t n c
@@ -71,8 +71,8 @@ module _ (t t' : JoinTable) (table : IsTable t) (table' : IsTable t') (d : ℕ �
       let live = (table.joined_name a b joined).0 in
       let there = table.live_made a.0 live in
       made.joins a (omega (arith, there, made.number)) (λ same.
-        let at : joined_to t d ≡ Some b = subst (λ x. joined_to t x ≡ Some b) (same ∙ dart_name t table d is_dart) (joined_named t table a b joined) in
-        absurd (cc (at, unjoined))) ∙ joined
+      let at : joined_to t d ≡ Some b = subst (λ x. joined_to t x ≡ Some b) (same ∙ dart_name t table d is_dart) (joined_named t table a b joined) in
+      absurd (cc (at, unjoined))) ∙ joined
 
   pub way_made : {n c : ℕ} → IsWay t n c → IsWay t' n c
   way_made starts = starts
@@ -86,13 +86,13 @@ module _ (t t' : JoinTable) (table : IsTable t) (table' : IsTable t') (d : ℕ �
     within = λ m c h. record { crossings = h.crossings; at_most = h.at_most; way = way_made h.way };
     bounded = λ all c live. elim (cases_lt c w) [
       | inl old ↦
-        let h = all c (subst (λ x. 0 < x) (made.turns c old) live) in
-        record { crossings = h.crossings; at_most = h.at_most; way = way_made h.way }
+          let h = all c (subst (λ x. 0 < x) (made.turns c old) live) in
+          record { crossings = h.crossings; at_most = h.at_most; way = way_made h.way }
       | inr past ↦
-        let there = table'.live_made c live in
-        let e : c ≡ w = omega (arith, past, there, made.count, made.number) in
-        let on = crosses near.crossings d (w, (origin_at t'.origins w).own) (way_made near.way) made.joined in
-        record { crossings = suc near.crossings; at_most = omega (arith, near.at_most); way = subst (IsWay t' (suc near.crossings)) (sym e) on }
+          let there = table'.live_made c live in
+          let e : c ≡ w = omega (arith, past, there, made.count, made.number) in
+          let on = crosses near.crossings d (w, (origin_at t'.origins w).own) (way_made near.way) made.joined in
+          record { crossings = suc near.crossings; at_most = omega (arith, near.at_most); way = subst (IsWay t' (suc near.crossings)) (sym e) on }
     ];
   }
 

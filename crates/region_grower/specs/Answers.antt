@@ -1,13 +1,12 @@
 -- What a growing region finds when its corners are closed and its radii are measured.
-use Rattle.std.specs.Prelude.{◌≡◌, ℕ, ◌+◌, ◌<◌, ◌≤◌, List, length, slice_index, Option, Some, None}
-use Rattle.coincidence.specs.Cells.{turn_at, IsLive}
+use Rattle.std.specs.Prelude.{◌≡◌, ℕ, ◌+◌, ◌<◌, ◌≤◌, List, length, None}
 use Rattle.coincidence.specs.Tables.{JoinTable, joined_to}
 use Rattle.coincidence.specs.Joined.{IsTable}
 use Rattle.region_grower.specs.declared.growth.Answer.{Answer}
 use Rattle.region_grower.specs.declared.growth.Answer.TheVariants.{Closed, Layer, Full, Open}
-use Rattle.region_grower.specs.Ways.{IsWithin, IsRadius, AllWithin, IsDart, IsJoined, HasOpen}
+use Rattle.region_grower.specs.Ways.{IsWithin, AllWithin, IsDart, IsJoined, HasOpen}
 use Rattle.region_grower.specs.Corners.{AllClosed}
-use Rattle.region_grower.specs.Regions.{AreRadii, HasNear}
+use Rattle.region_grower.specs.Regions.{AreRadii}
 
 -- a dart that is not joined, of a live cell at a distance of at most n
 pub record IsOpenDart (t : JoinTable) (n : ℕ) (d : ℕ × ℕ) : Type 0 where

@@ -1,5 +1,5 @@
 -- Round the corners of a table, through joined darts.
-use Rattle.std.specs.Prelude.{◌≡◌, ℕ, zero, suc, ◌+◌, ◌-◌, Option, Some, None, option_and_then}
+use Rattle.std.specs.Prelude.{◌≡◌, ℕ, zero, suc, ◌+◌, ◌-◌, Option, Some, option_and_then}
 use Rattle.tile_model.specs.Tessellations.{valence}
 use Rattle.coincidence.specs.Cells.{name}
 use Rattle.coincidence.specs.Tables.{JoinTable, joined_to, type_at}

@@ -1,5 +1,5 @@
 -- What a pass over darts leaves: it changed something, and what is left has fallen, or it changed nothing, and found all done.
-use Rattle.std.specs.Prelude.{◌≡◌, ℕ, ◌+◌, ◌<◌, ◌≤◌, Bool, true, false, List, length, slice_index, sum}
+use Rattle.std.specs.Prelude.{◌≡◌, ℕ, ◌<◌, Bool, true, false, List, length, slice_index, sum}
 use Rattle.coincidence.specs.Tables.{JoinTable}
 use Rattle.coincidence.specs.Joined.{IsTable}
 use Rattle.region_grower.specs.Regions.{unfinished, HasClosedOn, AreReached}

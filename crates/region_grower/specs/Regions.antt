@@ -1,14 +1,13 @@
 -- What stands of a region, and what a call of `grow` answers.
-use Rattle.std.specs.Prelude.{◌≡◌, ℕ, zero, suc, ◌+◌, ◌<◌, ◌≤◌, List, length, slice_index, nat_lt, Bool, Option, Some, None, if◌then◌else◌}
-use Rattle.tile_model.specs.Tessellations.{TileKind, kind_at, valence}
-use Rattle.coincidence.specs.Cells.{turn_at, IsLive, name, live_count}
-use Rattle.coincidence.specs.Tables.{JoinTable, joined_to, type_at, kind_of}
+use Rattle.std.specs.Prelude.{◌≡◌, ℕ, zero, suc, ◌+◌, ◌<◌, ◌≤◌, List, length, slice_index, nat_lt, Option, Some, None, if◌then◌else◌}
+use Rattle.coincidence.specs.Cells.{turn_at, IsLive, live_count}
+use Rattle.coincidence.specs.Tables.{JoinTable, joined_to, kind_of}
 use Rattle.coincidence.specs.Joined.{IsTable}
 use Rattle.region_grower.specs.declared.region.Grown.{Grown}
 use Rattle.region_grower.specs.declared.region.Grown.TheVariants.{Layer, Full, Closed}
-use Rattle.region_grower.specs.Ways.{IsWay, IsWithin, IsRadius, AllWithin, IsDart, HasOpen, IsJoined, AllJoined}
+use Rattle.region_grower.specs.Ways.{IsWay, IsWithin, IsRadius, AllWithin, HasOpen, AllJoined}
 use Rattle.region_grower.specs.Tiles.{HasTiles}
-use Rattle.region_grower.specs.Corners.{rounds, valence_at, AllClosed}
+use Rattle.region_grower.specs.Corners.{AllClosed}
 
 -- a region: its cells and joins, the radius of each cell, and the number of its last layer
 pub record RegionState : Type 0 where

@@ -1,6 +1,6 @@
 -- How far the cells of a table lie from its first cell, by crossings through joined darts.
-use Rattle.std.specs.Prelude.{◌≡◌, ℕ, zero, suc, ◌+◌, ◌<◌, ◌≤◌, Option, Some, None}
-use Rattle.coincidence.specs.Cells.{turn_at, IsLive, name}
+use Rattle.std.specs.Prelude.{◌≡◌, ℕ, suc, ◌<◌, ◌≤◌, Some, None}
+use Rattle.coincidence.specs.Cells.{turn_at, IsLive}
 use Rattle.coincidence.specs.Tables.{JoinTable, joined_to}
 
 -- n crossings through joined darts lead from cell 0 to a cell

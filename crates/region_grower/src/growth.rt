@@ -35,7 +35,8 @@ fn is_open(joins: &Joins, d: Dart) -> bool
 
 /// A dart of a cell that is live and not joined.
 fn open_side(joins: &Joins, cell: u32) -> Option<Dart>
-    ensures none { IfNone result ((i : ℕ) → IsDart joins.now (cell, i) → IsJoined joins.now (cell, i)) }
+    ensures none { IfNone result ((i : ℕ) → IsDart joins.now (cell, i)
+        → IsJoined joins.now (cell, i)) }
     ensures dart { IfSome result (IsDart joins.now) }
     ensures unjoined { IfSome result (λ d. joined_to joins.now d ≡ None) }
     ensures cell { IfSome result (λ d. d.0 ≡ cell) }
@@ -97,7 +98,11 @@ fn near_answer(joins: &Joins, radii: &[u32], far: Dart, within: u32, most: u32) 
     match open_dart(joins, radii, within) {
         None => Answer::Layer,
         Some(d) => {
-            if joins.made() < most { Answer::Open(d) } else { Answer::Full }
+            if joins.made() < most {
+                Answer::Open(d)
+            } else {
+                Answer::Full
+            }
         }
     }
 }
@@ -139,7 +144,13 @@ fn make(joins: &mut Joins, radii: &mut Vec<u32>, d: Dart, within: u32) -> Result
 }
 
 /// Makes a cell across a side of a live cell, if it is not joined and fewer cells were made than may be.
-fn make_side(joins: &mut Joins, radii: &mut Vec<u32>, d: Dart, within: u32, most: u32) -> Result<(), AllocError>
+fn make_side(
+    joins: &mut Joins,
+    radii: &mut Vec<u32>,
+    d: Dart,
+    within: u32,
+    most: u32,
+) -> Result<(), AllocError>
     requires table { IsTable joins.old }
     requires dart { IsDart joins.old d }
     requires near { IsWithin joins.old within d.0 }
@@ -163,7 +174,13 @@ fn make_side(joins: &mut Joins, radii: &mut Vec<u32>, d: Dart, within: u32, most
 }
 
 /// Makes a cell across each side of a live cell that is not joined.
-fn make_round(joins: &mut Joins, radii: &mut Vec<u32>, cell: u32, within: u32, most: u32) -> Result<(), AllocError>
+fn make_round(
+    joins: &mut Joins,
+    radii: &mut Vec<u32>,
+    cell: u32,
+    within: u32,
+    most: u32,
+) -> Result<(), AllocError>
     requires table { IsTable joins.old }
     requires live { IsLive joins.old.cells cell }
     requires near { IsWithin joins.old within cell }
@@ -185,7 +202,13 @@ fn make_round(joins: &mut Joins, radii: &mut Vec<u32>, cell: u32, within: u32, m
 }
 
 /// Makes a cell across each side of a cell that is not joined, if the cell is live and near.
-fn make_near(joins: &mut Joins, radii: &mut Vec<u32>, cell: u32, within: u32, most: u32) -> Result<(), AllocError>
+fn make_near(
+    joins: &mut Joins,
+    radii: &mut Vec<u32>,
+    cell: u32,
+    within: u32,
+    most: u32,
+) -> Result<(), AllocError>
     requires table { IsTable joins.old }
     requires near { IsLive joins.old.cells cell → slice_index radii.old.items cell ≤ within
         → IsWithin joins.old within cell }
@@ -209,7 +232,13 @@ fn make_near(joins: &mut Joins, radii: &mut Vec<u32>, cell: u32, within: u32, mo
 }
 
 /// Makes a cell across a dart that is not joined, and then across each other such dart of the cells that are near.
-fn make_cells(joins: &mut Joins, radii: &mut Vec<u32>, d: Dart, within: u32, most: u32) -> Result<(), AllocError>
+fn make_cells(
+    joins: &mut Joins,
+    radii: &mut Vec<u32>,
+    d: Dart,
+    within: u32,
+    most: u32,
+) -> Result<(), AllocError>
     requires ready { IsReady joins.old radii.old.items within }
     requires opened { IsOpenDart joins.old within d }
     requires most { most ≤ 1000000 }
@@ -243,7 +272,12 @@ pub(crate) fn settle(joins: &mut Joins, radii: &mut [u32], within: u32)
 }
 
 /// Makes cells, and closes the corners, until there is an answer other than a dart that is open. Out of memory the region is settled.
-pub(crate) fn advance(joins: &mut Joins, radii: &mut Vec<u32>, within: u32, most: u32) -> Result<Answer, AllocError>
+pub(crate) fn advance(
+    joins: &mut Joins,
+    radii: &mut Vec<u32>,
+    within: u32,
+    most: u32,
+) -> Result<Answer, AllocError>
     requires ready { IsReady joins.old radii.old.items within }
     requires most { most ≤ 1000000 }
     requires made { length joins.old.origins ≤ most }

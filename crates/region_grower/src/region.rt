@@ -96,7 +96,11 @@ impl<'t> Region<'t> {
         ensures live { IfSome result (λ _. IsLive self.now.table.cells cell) }
         ensures none { IfNone result (IsLive self.now.table.cells cell → ⊥) }
     {
-        if self.joins.alive(cell) { Some(self.radii[cell as usize]) } else { None }
+        if self.joins.alive(cell) {
+            Some(self.radii[cell as usize])
+        } else {
+            None
+        }
     }
 
     /// Makes cells, `most` in all at most, until a layer is finished or the region is closed, and closes the corners. Out of memory the

@@ -5,7 +5,13 @@ use std::test::Fail;
 use tile_kinds::{Kind, Tessellation};
 
 // A kind of tile.
-fn kind(alloc: Global, sides: u8, repeat: u8, partner: &[(u8, u8)], valence: &[u8]) -> Result<Kind, AllocError> {
+fn kind(
+    alloc: Global,
+    sides: u8,
+    repeat: u8,
+    partner: &[(u8, u8)],
+    valence: &[u8],
+) -> Result<Kind, AllocError> {
     Ok(Kind {
         sides,
         repeat,
@@ -50,7 +56,13 @@ fn snub(alloc: Global, p: u8, q: u8) -> Result<Vec<Kind>, AllocError> {
 fn collapsing(alloc: Global) -> Result<Vec<Kind>, AllocError> {
     let mut kinds = Vec::new(alloc);
     kinds.push(kind(alloc, 3, 1, &[(1, 0)], &[3])?)?;
-    kinds.push(kind(alloc, 4, 4, &[(0, 0), (1, 3), (2, 0), (1, 1)], &[3, 3, 3, 3])?)?;
+    kinds.push(kind(
+        alloc,
+        4,
+        4,
+        &[(0, 0), (1, 3), (2, 0), (1, 1)],
+        &[3, 3, 3, 3],
+    )?)?;
     kinds.push(kind(alloc, 4, 1, &[(1, 2)], &[3])?)?;
     Ok(kinds)
 }
@@ -87,9 +99,21 @@ fn closes_with_the_number_of_faces(rt: HostRuntime) -> Result<(), Fail> {
         (3, 5, 12, 30, 20),
     ] {
         assert_eq!(rt; tiles(alloc, regular(alloc, p, q)?)?, f, "{p},{q}");
-        assert_eq!(rt; tiles(alloc, truncated(alloc, p, q)?)?, f + v, "{p},{q} truncated");
-        assert_eq!(rt; tiles(alloc, rectified(alloc, p, q)?)?, f + v, "{p},{q} rectified");
-        assert_eq!(rt; tiles(alloc, snub(alloc, p, q)?)?, f + v + 2 * e, "{p},{q} snub");
+        assert_eq!(rt;
+            tiles(alloc, truncated(alloc, p, q)?)?,
+            f + v,
+            "{p},{q} truncated"
+        );
+        assert_eq!(rt;
+            tiles(alloc, rectified(alloc, p, q)?)?,
+            f + v,
+            "{p},{q} rectified"
+        );
+        assert_eq!(rt;
+            tiles(alloc, snub(alloc, p, q)?)?,
+            f + v + 2 * e,
+            "{p},{q} snub"
+        );
     }
     assert_eq!(rt; tiles(alloc, truncated(alloc, 2, 3)?)?, 5);
     assert_eq!(rt; tiles(alloc, collapsing(alloc)?)?, 3);

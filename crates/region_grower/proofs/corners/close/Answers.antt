@@ -1,11 +1,10 @@
 -- Round the corner from dart to dart, and back to the first one.
-use Rattle.std.proofs.Common.{◌≡◌, ℕ, ◌-◌, Some, refl, sym, ap, ap₂, ◌∙◌, subst}
+use Rattle.std.proofs.Common.{◌≡◌, ◌-◌, Some, sym, ap, ap₂, ◌∙◌, subst}
 use Rattle.tile_model.specs.Tessellations.{valence}
 use Rattle.coincidence.specs.Cells.{IsLive}
 use Rattle.coincidence.specs.Atlases.{LieAcross}
 use Rattle.coincidence.specs.Tables.{joined_to, atlas}
-use Rattle.region_grower.specs.Ways.{IsDart}
-use Rattle.region_grower.specs.Corners.{left_of, rounds, valence_at}
+use Rattle.region_grower.specs.Corners.{rounds, valence_at}
 use Rattle.region_grower.proofs.Rounds.{rounds_dart}
 use Rattle.region_grower.proofs.Closing.{dart_side, last_across, passed_joined}
 use Rattle.region_grower.proofs.corners.close.Goals as goal

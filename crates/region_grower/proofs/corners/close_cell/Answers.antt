@@ -1,5 +1,5 @@
 -- One side after the other.
-use Rattle.std.proofs.Common.{◌≡◌, ℕ, ◌+◌, ◌<◌, sym, subst, arith, below_more}
+use Rattle.std.proofs.Common.{ℕ, ◌+◌, ◌<◌, sym, subst, arith, below_more}
 use Rattle.region_grower.specs.Ways.{IsDart}
 use Rattle.region_grower.specs.Corners.{IsClosed}
 use Rattle.region_grower.specs.Passes.{HasPassed}

@@ -1,10 +1,9 @@
 -- One cell after the other.
-use Rattle.std.proofs.Common.{◌≡◌, ℕ, ◌+◌, ◌<◌, sym, subst, arith}
+use Rattle.std.proofs.Common.{ℕ, ◌+◌, ◌<◌, sym, subst}
 use Rattle.region_grower.specs.Ways.{IsDart}
-use Rattle.region_grower.specs.Corners.{IsClosed, AllClosed}
+use Rattle.region_grower.specs.Corners.{IsClosed}
 use Rattle.region_grower.specs.Passes.{HasPassed}
-use Rattle.region_grower.proofs.Passes.{passed_on, passed_as, cells_more}
-use Rattle.region_grower.proofs.Closing.{dart_made}
+use Rattle.region_grower.proofs.Passes.{passed_on, cells_more}
 use Rattle.region_grower.proofs.corners.close_each.Goals as goal
 
 pub loop-cell-preserved : goal.loop-cell-preserved

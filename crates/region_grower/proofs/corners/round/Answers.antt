@@ -1,7 +1,7 @@
 -- One time more, or a join is missing.
-use Rattle.std.proofs.Common.{◌≡◌, ◌+◌, ◌≤◌, Some, None, sym, ap, ◌∙◌, arith}
+use Rattle.std.proofs.Common.{◌≡◌, ◌+◌, Some, None, sym, ap, ◌∙◌, arith}
 use Rattle.coincidence.specs.Tables.{joined_to}
-use Rattle.region_grower.specs.Corners.{left_of, rounds}
+use Rattle.region_grower.specs.Corners.{left_of}
 use Rattle.region_grower.proofs.Closing.{rounds_more, rounds_stuck}
 use Rattle.region_grower.proofs.corners.round.Goals as goal
 

@@ -1,5 +1,5 @@
 -- No live cell comes to lie farther away than one more than is near.
-use Rattle.std.proofs.Common.{◌≡◌, sym, ◌∙◌, subst, arith}
+use Rattle.std.proofs.Common.{sym, ◌∙◌, subst, arith}
 use Rattle.std.proofs.lemmas.List.{take_at}
 use Rattle.region_grower.specs.Regions.{AreRadii}
 use Rattle.region_grower.proofs.growth.advance.Goals as goal

@@ -8,7 +8,7 @@ invariant-loop-answer l = record {
   ready : IsReady l.joins l.radii.items l.within;
   answer : IsAnswer l.joins l.within l.most l.answer;
   at_most : length l.joins.origins ≤ l.most;
-  kinds : l.joins.kinds ≡ l.fn.joins.kinds
+  kinds : l.joins.kinds ≡ l.fn.joins.kinds;
 }
 
 abbrev pub decreases-loop-answer : goal.decreases-loop-answer

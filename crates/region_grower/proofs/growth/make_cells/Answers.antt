@@ -1,5 +1,5 @@
 -- One cell after the other.
-use Rattle.std.proofs.Common.{◌≡◌, ◌<◌, ◌≤◌, length, ◌∙◌, arith}
+use Rattle.std.proofs.Common.{◌<◌, length, ◌∙◌, arith}
 use Rattle.region_grower.proofs.Ways.{made_on_both}
 use Rattle.region_grower.proofs.Growing.{was_live, within_radius}
 use Rattle.region_grower.proofs.growth.make_cells.Goals as goal

@@ -12,5 +12,5 @@ invariant-loop-cell l = record {
   made : HasMadeOn l.fn.joins l.joins l.within;
   at_most : length l.joins.origins ≤ l.most;
   more : length l.fn.joins.origins < length l.joins.origins;
-  radii : (c : ℕ) → c < vec_len l.fn.radii → slice_index l.radii.items c ≡ slice_index l.fn.radii.items c
+  radii : (c : ℕ) → c < vec_len l.fn.radii → slice_index l.radii.items c ≡ slice_index l.fn.radii.items c;
 }

@@ -1,5 +1,5 @@
 -- One side after the other.
-use Rattle.std.proofs.Common.{◌≡◌, ◌<◌, ◌≤◌, ◌∙◌, arith}
+use Rattle.std.proofs.Common.{◌∙◌, arith}
 use Rattle.region_grower.proofs.Ways.{made_on_both}
 use Rattle.region_grower.proofs.Growing.{still_dart}
 use Rattle.region_grower.proofs.growth.make_round.Goals as goal

@@ -11,5 +11,5 @@ invariant-loop-side l = record {
   longer : vec_len l.fn.radii ≤ vec_len l.radii;
   made : HasMadeOn l.fn.joins l.joins l.within;
   at_most : length l.joins.origins ≤ l.most;
-  radii : (c : ℕ) → c < vec_len l.fn.radii → slice_index l.radii.items c ≡ slice_index l.fn.radii.items c
+  radii : (c : ℕ) → c < vec_len l.fn.radii → slice_index l.radii.items c ≡ slice_index l.fn.radii.items c;
 }

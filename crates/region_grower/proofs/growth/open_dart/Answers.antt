@@ -1,5 +1,5 @@
 -- One cell after the other.
-use Rattle.std.proofs.Common.{◌≡◌, ℕ, ◌<◌, ◌≤◌, slice_index, arith}
+use Rattle.std.proofs.Common.{◌≤◌, slice_index, arith}
 use Rattle.region_grower.specs.Ways.{IsDart, IsJoined}
 use Rattle.region_grower.proofs.Passes.{cells_more}
 use Rattle.region_grower.proofs.growth.open_dart.Goals as goal

@@ -1,5 +1,5 @@
 -- The corners are closed, and then the radii measured.
-use Rattle.std.proofs.Common.{◌≡◌, ◌≤◌, ◌+◌, length, ap, arith}
+use Rattle.std.proofs.Common.{◌+◌, length, ap, arith}
 use Rattle.region_grower.proofs.Growing.{bound_renamed}
 use Rattle.region_grower.proofs.growth.settle.Goals as goal
 

@@ -1,6 +1,5 @@
 -- Where no radius fell, all are exact.
-use Rattle.std.proofs.Common.{◌≡◌, ◌≤◌, length, sym, subst, arith}
-use Rattle.coincidence.specs.Cells.{IsLive}
+use Rattle.std.proofs.Common.{sym, subst, arith}
 use Rattle.region_grower.specs.Regions.{AreRadii}
 use Rattle.region_grower.proofs.Measured.{are_radii, forgotten_reached}
 use Rattle.region_grower.proofs.radii.measure.Goals as goal

@@ -7,7 +7,7 @@ abbrev pub invariant-loop : goal.invariant-loop
 invariant-loop l = record {
   long : length l.joins.origins ≤ length l.radii;
   reached : AreReached l.joins l.radii;
-  first : slice_index l.radii 0 ≡ 0
+  first : slice_index l.radii 0 ≡ 0;
 }
 
 abbrev pub decreases-loop : goal.decreases-loop

@@ -1,6 +1,6 @@
 -- One side after the other.
-use Rattle.std.proofs.Common.{◌≡◌, ℕ, ◌+◌, ◌<◌, List, sym, subst, arith, below_more}
-use Rattle.region_grower.specs.Regions.{IsRelaxedAt, IsRelaxed}
+use Rattle.std.proofs.Common.{ℕ, ◌+◌, ◌<◌, sym, subst, arith, below_more}
+use Rattle.region_grower.specs.Regions.{IsRelaxedAt}
 use Rattle.region_grower.specs.Passes.{HasLowered}
 use Rattle.region_grower.proofs.Passes.{lowered_on, lowered_as}
 use Rattle.region_grower.proofs.radii.relax_cell.Goals as goal

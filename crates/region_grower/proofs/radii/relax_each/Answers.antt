@@ -1,5 +1,5 @@
 -- One cell after the other.
-use Rattle.std.proofs.Common.{◌≡◌, ℕ, ◌+◌, ◌<◌, List, sym, subst, arith, below_more}
+use Rattle.std.proofs.Common.{ℕ, ◌+◌, ◌<◌, sym, subst, arith, below_more}
 use Rattle.coincidence.specs.Cells.{IsLive}
 use Rattle.region_grower.specs.Regions.{IsRelaxed}
 use Rattle.region_grower.specs.Passes.{HasLowered}

@@ -1,8 +1,6 @@
 -- Each answer of the table is one of the region.
-use Rattle.std.proofs.Common.{◌≡◌, ◌+◌, ◌<◌, ◌≤◌, refl, sym, ap, ◌∙◌, subst, arith}
-use Rattle.coincidence.specs.Cells.{live_count}
+use Rattle.std.proofs.Common.{◌+◌, refl, ap, subst, arith}
 use Rattle.region_grower.specs.declared.growth.Answer.TheVariants.{Closed, Layer, Full}
-use Rattle.region_grower.specs.Regions.{RegionState}
 use Rattle.region_grower.specs.Answers.{IsAnswer}
 use Rattle.region_grower.proofs.Growing.{layer_is, layer_below, full_is, full_answer, closed_is, region_is, live_few}
 use Rattle.region_grower.proofs.region.Region.grow.Goals as goal

@@ -1,5 +1,5 @@
 -- The radius that was measured.
-use Rattle.std.proofs.Common.{◌≡◌, ◌<◌, length, slice_index, sym, subst, arith}
+use Rattle.std.proofs.Common.{◌≡◌, slice_index, sym, subst, arith}
 use Rattle.std.proofs.lemmas.List.{get_or_read}
 use Rattle.coincidence.specs.Cells.{IsLive}
 use Rattle.region_grower.specs.Ways.{IsRadius}

@@ -1,5 +1,5 @@
 -- The first cell alone.
-use Rattle.std.proofs.Common.{◌≡◌, ℕ, List, [], ◌∷◌, ◌++◌, ap, ◌∙◌}
+use Rattle.std.proofs.Common.{ℕ, List, [], ◌∷◌, ◌++◌, ap, ◌∙◌}
 use Rattle.region_grower.proofs.Starting.{start_region}
 use Rattle.region_grower.proofs.region.Region.start.Goals as goal
 
