@@ -82,6 +82,7 @@ module _ (t t' : JoinTable) (table : IsTable t) (table' : IsTable t') (d : ℕ �
   made_on n near = record {
     kinds = made.kinds;
     longer = omega (arith, made.count);
+    start = let some = table.some in made.old_kinds 0 (omega (arith, some, made.number));
     turns = λ c old. made.turns c (omega (arith, old, made.number));
     within = λ m c h. record { crossings = h.crossings; at_most = h.at_most; way = way_made h.way };
     bounded = λ all c live. elim (cases_lt c w) [
@@ -97,12 +98,13 @@ module _ (t t' : JoinTable) (table : IsTable t) (table' : IsTable t') (d : ℕ �
   }
 
 pub made_on_same : (t : JoinTable) (n : ℕ) → HasMadeOn t t n
-made_on_same t n = record { kinds = refl; longer = omega arith; turns = λ c old. refl; within = λ m c h. h; bounded = λ all. all }
+made_on_same t n = record { kinds = refl; longer = omega arith; start = refl; turns = λ c old. refl; within = λ m c h. h; bounded = λ all. all }
 
 pub made_on_both : (t t' t'' : JoinTable) (n : ℕ) → HasMadeOn t t' n → HasMadeOn t' t'' n → HasMadeOn t t'' n
 made_on_both t t' t'' n one two = record {
   kinds = two.kinds ∙ one.kinds;
   longer = omega (arith, one.longer, two.longer);
+  start = two.start ∙ one.start;
   turns = λ c old. let longer = one.longer in two.turns c (omega (arith, old, longer)) ∙ one.turns c old;
   within = λ m c h. two.within m c (one.within m c h);
   bounded = λ all. two.bounded (one.bounded all);

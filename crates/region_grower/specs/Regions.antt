@@ -98,6 +98,7 @@ IsRelaxed t radii c = (i : ℕ) → i < turn_at t.cells c → IsRelaxedAt t radi
 pub record HasMadeOn (t t' : JoinTable) (n : ℕ) : Type 0 where
   pub kinds : t'.kinds ≡ t.kinds
   pub longer : length t.origins ≤ length t'.origins
+  pub start : kind_of t'.origins 0 ≡ kind_of t.origins 0
   pub turns : (c : ℕ) → c < length t.origins → turn_at t'.cells c ≡ turn_at t.cells c
   pub within : (m c : ℕ) → IsWithin t m c → IsWithin t' m c
   pub bounded : AllWithin t (n + 1) → AllWithin t' (n + 1)

@@ -1,7 +1,7 @@
 // What is left to do for a layer, and the cells that are made for it.
 ghost use Rattle.std.specs.Prelude.{◌≡◌, ◌≢◌, ℕ, ◌+◌, ◌<◌, ◌≤◌, length, slice_index, true, false, Option, None, IfNone, IfSome, IfOk, OnOk, vec_len};
 ghost use Rattle.coincidence.specs.Cells.{IsLive, turn_at};
-ghost use Rattle.coincidence.specs.Tables.{JoinTable, joined_to};
+ghost use Rattle.coincidence.specs.Tables.{JoinTable, joined_to, kind_of};
 ghost use Rattle.coincidence.specs.Joined.{IsTable};
 ghost use Rattle.region_grower.specs.Ways.{IsWithin, AllWithin, IsDart, IsJoined, AllJoined};
 ghost use Rattle.region_grower.specs.Corners.{AllClosed};
@@ -286,6 +286,7 @@ pub(crate) fn advance(
     ensures done { IfOk result (λ a. (d : ℕ × ℕ) → a ≢ Answer.Open d) }
     ensures at_most { length joins.new.origins ≤ most }
     ensures kinds { joins.new.kinds ≡ joins.old.kinds }
+    ensures start { kind_of joins.new.origins 0 ≡ kind_of joins.old.origins 0 }
 {
     let mut answer = answer_of(joins, radii, within, most);
     while let Answer::Open(d) = answer {

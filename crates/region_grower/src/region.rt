@@ -110,6 +110,7 @@ impl<'t> Region<'t> {
         requires made { length self.old.table.origins ≤ most }
         ensures grown { IfOk result (IsGrown self.old self.new most) }
         ensures kinds { self.new.table.kinds ≡ self.old.table.kinds }
+        ensures start { kind_of self.new.table.origins 0 ≡ kind_of self.old.table.origins 0 }
         ensures made { length self.new.table.origins ≤ most }
         ensures layers { OnErr result (self.new.layers ≡ self.old.layers) }
         ensures table { IsTable self.new.table }
