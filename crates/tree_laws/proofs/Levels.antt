@@ -66,7 +66,7 @@ module _ (kinds : List TileKind) (a : TreeAutomaton) (valid : IsValid kinds) (ok
   start_type k h = (h, (valid.repeat k h).positive)
 
   -- any type is reached from side 0 of its kind by turns
-  turns_reach : (d : ℕ × ℕ) → IsType kinds d → type_of kinds (d.0, 0) (replicate d.1 L) ≡ d
+  pub turns_reach : (d : ℕ × ℕ) → IsType kinds d → type_of kinds (d.0, 0) (replicate d.1 L) ≡ d
   turns_reach d h =
       type_lefts kinds valid d.1 (d.0, 0) (start_type d.0 h.0) ∙ ap (λ s. (d.0, s)) (ap (λ n. n % (kind_at kinds d.0).repeat) (zero-add d.1) ∙ mod-eq_of_lt h.1)
 

@@ -20,3 +20,4 @@ pub mod Together
 pub mod Shortest
 pub mod Between
 pub mod RingTiles
+pub mod Stopping

@@ -1,9 +1,10 @@
 //! `Spot`: a tile of the tree by its name, with the states on the way to it, and one of its sides.
 ghost use Rattle.std.specs.Prelude.{◌≡◌, ◌≢◌, ◌<◌, ◌≤◌, suc, All, [], length, slice_index};
 ghost use Rattle.std.specs.Prelude.{IfOk, OnOk, OnErr};
-ghost use Rattle.structure_check.specs.Rules.{TreeRules};
+ghost use Rattle.structure_check.specs.Rules.{AreSound, TreeRules};
+ghost use Rattle.tile_model.specs.Tessellations.{IsType};
 ghost use Rattle.tree_model.specs.Automata.{state_at};
-ghost use Rattle.tree_model.specs.Positions.{root};
+ghost use Rattle.tree_model.specs.Positions.{root, type_of_side};
 ghost use Rattle.spot_laws.specs.Spots.{position, root_kind, tile_state, tile_sides, facing, rejoined};
 ghost use Rattle.spot_laws.specs.Spots.{IsSpot, IsAt, FacesChild, IsAtChild, IsAtParent};
 
@@ -11,7 +12,8 @@ use cell_names::Name;
 use smallvec::SmallVec;
 use std::alloc::{AllocError, Global};
 use std::marker::Model;
-use structure_check::Rules;
+use structure_check::{Rules, side_type};
+use tile_kinds::DartType;
 use tree_model::Rule;
 
 /// A tile of the tree by its name, the states on the path from the root to it, and the number of the side that is
@@ -167,6 +169,17 @@ impl Spot {
         ensures known { result < length r.now.kinds }
     {
         r.automaton().state(self.state()).kind
+    }
+
+    /// The type of the faced side.
+    pub fn faced_type(&self, r: &Rules) -> DartType
+        requires { IsSpot r.now self.now }
+        ensures value { result ≡ type_of_side r.now.kinds r.now.automaton (root_kind r.now self.now)
+            (position self.now) }
+        ensures is_type { IsType r.now.kinds result }
+        ensures sound { AreSound r.now }
+    {
+        side_type(r.tessellation(), r.automaton(), self.state(), self.spin)
     }
 
     /// An empty list, which takes the memory that it comes to need from where the spot has its own.

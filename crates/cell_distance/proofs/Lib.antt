@@ -1,0 +1,5 @@
+mod Splits
+mod Cancelling
+mod Arriving
+mod Leaving
+mod Spotted

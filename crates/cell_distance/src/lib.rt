@@ -1,0 +1,13 @@
+//! Distances between tiles, and shortest walks from one to the other.
+#![tactic(auto)]
+
+mod arrival;
+mod between;
+mod fault;
+mod spots;
+#[cfg(test)]
+mod tests;
+
+pub use between::{distance, shortest};
+pub use fault::DistFault;
+pub use spots::{spot_distance, spot_shortest};
