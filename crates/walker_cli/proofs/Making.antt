@@ -18,6 +18,7 @@ use Rattle.walker_cli.specs.Held.{Outcome, Loaded, Refused, IsTess, IsMade, made
 use Rattle.walker_cli.specs.Due.{Contents, Makes, CheckRow, StoresFor, check_accepted}
 use Rattle.walker_cli.specs.Loading.{IfPlan, FitsTask, SaysAs, TellsFault, TellsStoreFault, RulesCome}
 
+-- rules that are made are all that they may come to
 pub made_comes : (kinds : List TileKind) (rules : TreeRules) → AreRegular kinds rules
     → {outcome : Outcome TreeAutomaton} → IsMade kinds outcome → RulesCome outcome (Ok rules)
 made_comes kinds rules known (made_none irregular) = irregular known.regular
@@ -26,40 +27,20 @@ made_comes kinds rules known (made_spherical regular spherical) =
     omega (arith, infinite, spherical)
 made_comes kinds rules known (made_rules regular infinite) = known.automaton
 
+-- and they come to this
 pub made_loaded : (kinds : List TileKind) (rules : TreeRules) → AreRegular kinds rules
     → IsMade kinds (Loaded rules.automaton)
 made_loaded kinds rules known =
     subst (λ (a : TreeAutomaton). IsMade kinds (Loaded a)) (sym known.automaton)
     (made_rules known.regular known.infinite)
 
-pub none_comes : (kinds : List TileKind) → ¬ IsRegular kinds
-    → {outcome : Outcome TreeAutomaton} → IsMade kinds outcome
-    → RulesCome outcome (Err (Said (Due Usage)))
-none_comes kinds irregular (made_none other) = refl
-none_comes kinds irregular (made_spherical regular spherical) = absurd (irregular regular)
-none_comes kinds irregular (made_rules regular infinite) = absurd (irregular regular)
-
-pub spherical_comes : (kinds : List TileKind) (p q : ℕ) → IsRegular kinds → p ≡ p_of kinds
-    → q ≡ q_of kinds → IsSpherical p q
-    → {outcome : Outcome TreeAutomaton} → IsMade kinds outcome
-    → RulesCome outcome (Err (Said (Due (Spherical p q))))
-spherical_comes kinds p q regular is_p is_q low (made_none irregular) = absurd (irregular regular)
-spherical_comes kinds p q regular is_p is_q low (made_spherical also spherical) =
-    λ i. Spherical (is_p i) (is_q i)
-spherical_comes kinds p q regular is_p is_q low (made_rules also infinite) =
-    let low' : IsSpherical (p_of kinds) (q_of kinds) = subst (λ (n : ℕ). IsSpherical (p_of kinds) n) is_q (subst (λ (n : ℕ). IsSpherical n q) is_p low) in
-    absurd (omega (arith, low', infinite))
-
+-- a tessellation that is told as spherical is so
 pub spherical_made : (kinds : List TileKind) (p q : ℕ) → IsRegular kinds → p ≡ p_of kinds
     → q ≡ q_of kinds → IsSpherical p q → IsMade kinds (Refused (Spherical p q))
 spherical_made kinds p q regular is_p is_q low =
     let low' : IsSpherical (p_of kinds) (q_of kinds) = subst (λ (n : ℕ). IsSpherical (p_of kinds) n) is_q (subst (λ (n : ℕ). IsSpherical n q) is_p low) in
     subst (λ (answer : Answer). IsMade kinds (Refused answer)) (λ i. Spherical (sym is_p i) (sym is_q i))
     (made_spherical regular low')
-
-pub memory_comes : (outcome : Outcome TreeAutomaton) → RulesCome outcome (Err Memory)
-memory_comes (Loaded a) = tt
-memory_comes (Refused answer) = tt
 
 -- what is said of rules that are made, once they are stored where a file is named
 module _ (contents : Contents) (tess : List ℕ) (out : Option (List ℕ)) (kinds : List TileKind) (a : TreeAutomaton) (makes : Makes contents tess kinds a) where

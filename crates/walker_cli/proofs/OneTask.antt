@@ -1,10 +1,9 @@
 -- Words ask for one task alone.
-use Rattle.std.proofs.Common.{◌≡◌, ℕ, List, [], ◌∷◌, codes, Option, get_or, arith, refl, sym, ◌∙◌, ap, subst}
+use Rattle.std.proofs.Common.{◌≡◌, ℕ, List, [], Option, get_or, arith, refl, sym, ◌∙◌, ap, subst}
 use Rattle.std.specs.Str.Parse.{digits_value}
-use Rattle.tile_model.specs.declared.Letter.{Letter}
 use Rattle.tile_model.specs.WalkTexts.{walk_text}
 use Rattle.tile_model.proofs.WalkTexts.{one_walk}
-use Rattle.walker_cli.specs.Tasks.{Task, TellType, CheckRules, RunSession, LearnRules, Ask, IsKindForm, AreNotOfRun, AreNotOfLearn, HaveNoForm, RunOptions, run_plain, run_rules, run_cells, LearnOptions, learn_plain, learn_out, learn_cells, learn_cells_out, learn_out_cells}
+use Rattle.walker_cli.specs.Tasks.{Task, TellType, CheckRules, RunSession, LearnRules, Ask, RunOptions, run_plain, run_rules, run_cells, LearnOptions, learn_plain, learn_out, learn_cells, learn_cells_out, learn_out_cells}
 
 -- the letter at a place of the first word
 abbrev pub letter : ℕ → List (List ℕ) → ℕ
@@ -83,13 +82,3 @@ one_task words (RunSession tess k rules) (LearnRules tess' out') one two = let o
 one_task words (LearnRules tess out) (TellType tess' k' walk') one two = let other : 108 ≡ 107 = ap (letter 0) (sym one.spelled ∙ two.spelled) in absurd (omega (arith, other))
 one_task words (LearnRules tess out) (CheckRules tess' rules') one two = let other : 108 ≡ 99 = ap (letter 0) (sym one.spelled ∙ two) in absurd (omega (arith, other))
 one_task words (LearnRules tess out) (RunSession tess' k' rules') one two = let other : 108 ≡ 114 = ap (letter 0) (sym one.spelled ∙ two.spelled) in absurd (omega (arith, other))
-
--- words that are of none of the four forms are in no form
-pub of_no_form : (words : List (List ℕ)) → AreNotOfRun words → AreNotOfLearn words
-    → ((tess : List ℕ) (k : ℕ) (walk : List Letter) → IsKindForm words tess k walk → ⊥)
-    → ((tess rules : List ℕ) → words ≡ codes "check" ∷ tess ∷ rules ∷ [] → ⊥)
-    → HaveNoForm words
-of_no_form words no_run no_learn no_kind no_check (TellType tess k walk) ask = no_kind tess k walk ask
-of_no_form words no_run no_learn no_kind no_check (CheckRules tess rules) ask = no_check tess rules ask
-of_no_form words no_run no_learn no_kind no_check (RunSession tess k rules) ask = no_run tess k rules ask
-of_no_form words no_run no_learn no_kind no_check (LearnRules tess out) ask = no_learn tess out ask
