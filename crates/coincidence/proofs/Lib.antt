@@ -1,0 +1,17 @@
+pub mod Numbers
+pub mod Names
+pub mod Chains
+pub mod Periods
+pub mod Falls
+pub mod Moves
+pub mod Settled
+pub mod Links
+pub mod Merges
+pub mod Anew
+pub mod Unchained
+pub mod Kept
+pub mod Calls
+pub mod Origins
+pub mod Extends
+pub mod Made
+pub mod Empty

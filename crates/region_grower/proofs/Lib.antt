@@ -1,0 +1,12 @@
+pub mod Ways
+pub mod Rounds
+pub mod Left
+pub mod Measured
+pub mod Passes
+pub mod Count
+pub mod Listing
+pub mod Model
+pub mod Tiles
+pub mod Closing
+pub mod Starting
+pub mod Growing

@@ -1,0 +1,9 @@
+-- The cells before this one.
+use Rattle.std.proofs.Common.{ℕ, ◌<◌}
+use Rattle.coincidence.specs.Cells.{IsLive}
+use Rattle.region_grower.specs.Regions.{IsRelaxed}
+use Rattle.region_grower.specs.Passes.{HasLowered}
+use Rattle.region_grower.proofs.radii.relax_each.Given as goal
+
+abbrev pub invariant-loop-cell : goal.invariant-loop-cell
+invariant-loop-cell l = HasLowered l.joins l.fn.radii l.radii l.changed (λ rs. (c : ℕ) → c < l.cell → IsLive l.joins.cells c → IsRelaxed l.joins rs c)

@@ -1,0 +1,16 @@
+pub mod Shapes
+pub mod Runs
+pub mod Claims
+pub mod Children
+pub mod Listed
+pub mod Numbers
+pub mod Growing
+pub mod Few
+pub mod AllPairs
+pub mod Tables
+pub mod Over
+pub mod CornerConditions
+pub mod TableCondition
+pub mod SideConditions
+pub mod ChildConditions
+pub mod Accepted
