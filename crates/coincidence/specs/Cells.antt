@@ -1,4 +1,5 @@
--- The cells of a table: which are live, which became which, how far sides are told apart, and what each dart is named.
+-- The cells of a table: which are live, which became which, how far sides are told apart, and what
+-- each dart is named.
 use Rattle.std.specs.Prelude.{◌≡◌, ℕ, zero, suc, ◌+◌, ◌%◌, ◌<◌, ◌==◌, List, slice_index_or, sum_by, if◌then◌else◌}
 use Rattle.coincidence.specs.declared.table.Cell.{Cell}
 use Rattle.coincidence.specs.Darts.{nowhere}
@@ -33,7 +34,8 @@ live_count cells = sum_by (λ x. if x.turn == 0 then 0 else 1) cells
 abbrev pub IsOrdered : List Cell → Type 0
 IsOrdered cells = (c : ℕ) → turn_at cells c ≡ 0 → into_at cells c < c
 
--- The dart of a live cell that a side of a cell is, followed from cell to cell so many times at most: sides equal modulo the turn are
+-- The dart of a live cell that a side of a cell is, followed from cell to cell so many times at
+-- most: sides equal modulo the turn are
 -- one dart, named by the least of them.
 abbrev pub name_within : ℕ → List Cell → ℕ → ℕ → ℕ × ℕ
 name_within zero cells c i = (c, i)

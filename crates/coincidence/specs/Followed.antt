@@ -1,4 +1,5 @@
--- How a table may change while cells are renamed: names are composed, joins are kept under the new names, and turns fall to divisors.
+-- How a table may change while cells are renamed: names are composed, joins are kept under the new
+-- names, and turns fall to divisors.
 use Rattle.std.specs.Prelude.{◌≡◌, ℕ, ◌/◌, ◌%◌, ◌<◌, List, length}
 use Rattle.coincidence.specs.declared.table.Cell.{Cell}
 use Rattle.coincidence.specs.Darts.{unpack, slot_at, IsTaken}
@@ -22,6 +23,7 @@ pub record HasFallen (cells cells' : List Cell) (c : ℕ) : Type 0 where
 
 pub record IsFollowed (cells : List Cell) (slots : List ℕ) (cells' : List Cell) (slots' : List ℕ) : Type 0 where
   pub names : (d : ℕ × ℕ) → name cells' (name cells d) ≡ name cells' d
-  pub kept : (p q : ℕ × ℕ) → AreNamed cells slots p q → AreNamed cells' slots' (name cells' p) (name cells' q)
+  pub kept : (p q : ℕ × ℕ) → AreNamed cells slots p q
+      → AreNamed cells' slots' (name cells' p) (name cells' q)
   pub turns : (c : ℕ) → IsLive cells' c → HasFallen cells cells' c
   pub count : length cells' ≡ length cells

@@ -20,8 +20,10 @@ pub record IsKept (kinds : List TileKind) (origins : List Origin) (t : Table) : 
   pub count : length t.cells.items ≡ length origins
   pub kinds_there : (c : ℕ) → c < length origins → kind_of origins c < length kinds
   pub come : (c : ℕ) → 0 < c → c < length origins → ComesFrom kinds origins c
-  pub met : (c : ℕ) → 0 < c → c < length origins → AreNamed t.cells.items t.slots.items (name t.cells.items (unpack (origin_at origins c).across)) (name t.cells.items (c, (origin_at origins c).own))
-  pub turns : (c : ℕ) → IsLive t.cells.items c → (kind_at kinds (kind_of origins c)).sides % turn_at t.cells.items c ≡ 0
+  pub met : (c : ℕ) → 0 < c → c < length origins
+      → AreNamed t.cells.items t.slots.items (name t.cells.items (unpack (origin_at origins c).across)) (name t.cells.items (c, (origin_at origins c).own))
+  pub turns : (c : ℕ) → IsLive t.cells.items c
+      → (kind_at kinds (kind_of origins c)).sides % turn_at t.cells.items c ≡ 0
   pub sound : IsSound (atlas_of kinds origins) t.cells.items t.slots.items
 
 -- a name is of a live cell, no later one, below its turn
@@ -40,25 +42,33 @@ pub record IsTable (t : JoinTable) : Type 0 where
   pub live_made : (c : ℕ) → IsLive t.cells c → c < length t.origins
   pub first_walk : (atlas t).walk_to 0 ≡ []
   pub first_live : IsLive t.cells 0
-  pub turns : (c : ℕ) → IsLive t.cells c → (kind_at t.kinds (kind_of t.origins c)).sides % turn_at t.cells c ≡ 0
+  pub turns : (c : ℕ) → IsLive t.cells c
+      → (kind_at t.kinds (kind_of t.origins c)).sides % turn_at t.cells c ≡ 0
   pub named : (d : ℕ × ℕ) → IsNameOf t d (name t.cells d)
   pub name_live : (c i : ℕ) → IsLive t.cells c → name t.cells (c, i) ≡ (c, i % turn_at t.cells c)
   pub one_cell : (c i j : ℕ) → (name t.cells (c, i)).0 ≡ (name t.cells (c, j)).0
-  pub walk_type : (d : ℕ × ℕ) → d.0 < length t.origins → type_of t.kinds (kind_of t.origins 0, 0) (dart_walk t d) ≡ type_at t d
+  pub walk_type : (d : ℕ × ℕ) → d.0 < length t.origins
+      → type_of t.kinds (kind_of t.origins 0, 0) (dart_walk t d) ≡ type_at t d
   pub related_name : (d : ℕ × ℕ) → AreOne (atlas t) (dart_walk t d) (dart_walk t (name t.cells d))
-  pub joined_name : (a b : ℕ × ℕ) → joined_to t a ≡ Some b → IsLive t.cells a.0 × (name t.cells b ≡ b)
+  pub joined_name : (a b : ℕ × ℕ) → joined_to t a ≡ Some b → IsLive t.cells a.0
+      × (name t.cells b ≡ b)
   pub back : (a b : ℕ × ℕ) → joined_to t a ≡ Some b → joined_to t b ≡ Some (name t.cells a)
   pub come : (c : ℕ) → 0 < c → c < length t.origins → ComesFrom t.kinds t.origins c
-  pub met : (c : ℕ) → 0 < c → c < length t.origins → joined_to t (name t.cells (unpack (origin_at t.origins c).across)) ≡ Some (name t.cells (c, (origin_at t.origins c).own))
+  pub met : (c : ℕ) → 0 < c → c < length t.origins
+      → joined_to t (name t.cells (unpack (origin_at t.origins c).across))
+      ≡ Some (name t.cells (c, (origin_at t.origins c).own))
   pub sound : IsSoundTable t
 
--- How cells were renamed in a call. Where cells come from stays. Names are composed, and while its cell is live a dart keeps its name up
--- to the turn. Darts that were joined are joined, as they are now named. Turns fall to divisors, and no cell comes back to life.
+-- How cells were renamed in a call. Where cells come from stays. Names are composed, and while its
+-- cell is live a dart keeps its name up
+-- to the turn. Darts that were joined are joined, as they are now named. Turns fall to divisors,
+-- and no cell comes back to life.
 pub record HasRenamed (t t' : JoinTable) : Type 0 where
   pub kinds : t'.kinds ≡ t.kinds
   pub origins : t'.origins ≡ t.origins
   pub names : (d : ℕ × ℕ) → name t'.cells (name t.cells d) ≡ name t'.cells d
-  pub kept : (a b : ℕ × ℕ) → joined_to t a ≡ Some b → joined_to t' (name t'.cells a) ≡ Some (name t'.cells b)
+  pub kept : (a b : ℕ × ℕ) → joined_to t a ≡ Some b → joined_to t' (name t'.cells a)
+      ≡ Some (name t'.cells b)
   pub turns : (c : ℕ) → IsLive t'.cells c → HasFallen t.cells t'.cells c
 
 -- The table of one cell, of the kind handed in, of whose sides none is joined.
@@ -70,18 +80,22 @@ pub record IsFirst (kinds : List TileKind) (k : ℕ) (t : JoinTable) : Type 0 wh
   pub live : live_count t.cells ≡ 1
   pub unjoined : (d : ℕ × ℕ) → joined_to t d ≡ None
 
--- Cell w was made across a dart. All else stays: the cells before, with their walks and turns, the names of their darts, and their joins.
+-- Cell w was made across a dart. All else stays: the cells before, with their walks and turns, the
+-- names of their darts, and their joins.
 pub record HasMade (t t' : JoinTable) (d : ℕ × ℕ) (w : ℕ) : Type 0 where
   pub kinds : t'.kinds ≡ t.kinds
   pub number : w ≡ length t.origins
   pub count : length t'.origins ≡ length t.origins + 1
   pub old_kinds : (c : ℕ) → c < w → kind_of t'.origins c ≡ kind_of t.origins c
   pub walks : (c : ℕ) → c < w → (atlas t').walk_to c ≡ (atlas t).walk_to c
-  pub across : (kind_of t'.origins w, (origin_at t'.origins w).own) ≡ cross t.kinds (type_at t (name t.cells d))
+  pub across : (kind_of t'.origins w, (origin_at t'.origins w).own)
+      ≡ cross t.kinds (type_at t (name t.cells d))
   pub turns : (c : ℕ) → c < w → turn_at t'.cells c ≡ turn_at t.cells c
   pub turn : turn_at t'.cells w ≡ (kind_at t'.kinds (kind_of t'.origins w)).sides
   pub names : (e : ℕ × ℕ) → e.0 < w → name t'.cells e ≡ name t.cells e
   pub joined : joined_to t' d ≡ Some (w, (origin_at t'.origins w).own)
-  pub joins : (e : ℕ × ℕ) → e.0 < w → ¬ (name t.cells e ≡ name t.cells d) → joined_to t' e ≡ joined_to t e
-  pub unjoined : (i : ℕ) → i < turn_at t'.cells w → ¬ (i ≡ (origin_at t'.origins w).own) → joined_to t' (w, i) ≡ None
+  pub joins : (e : ℕ × ℕ) → e.0 < w → ¬ (name t.cells e ≡ name t.cells d) → joined_to t' e
+      ≡ joined_to t e
+  pub unjoined : (i : ℕ) → i < turn_at t'.cells w → ¬ (i ≡ (origin_at t'.origins w).own)
+      → joined_to t' (w, i) ≡ None
   pub live : live_count t'.cells ≡ live_count t.cells + 1

@@ -1,4 +1,5 @@
--- What still follows from renamings: darts that wait in the slots of sides past the turn, and the chain of the cells that hold them.
+-- What still follows from renamings: darts that wait in the slots of sides past the turn, and the
+-- chain of the cells that hold them.
 use Rattle.std.specs.Prelude.{◌≡◌, ℕ, ◌+◌, ◌*◌, ◌/◌, ◌%◌, ◌<◌, ◌≤◌, ◌⊎◌, ◌==◌, List, [], ◌∷◌, ◌++◌, length, if◌then◌else◌, sum_by}
 use Rattle.coincidence.specs.declared.table.Cell.{Cell}
 use Rattle.coincidence.specs.declared.table.Table.{Table}
@@ -26,7 +27,8 @@ pub data IsAmong (x : ℕ) : List ℕ → Type 0 where
 -- the cells are those met from the head of the chain on, each once
 pub data IsChain (cells : List Cell) : ℕ → List ℕ → Type 0 where
   ends : (head : ℕ) → head ≡ last_link → IsChain cells head []
-  goes : (c : ℕ) (rest : List ℕ) → c < length cells → IsChained cells c → ¬ (IsAmong c rest) → IsChain cells (next_at cells c) rest → IsChain cells c (c ∷ rest)
+  goes : (c : ℕ) (rest : List ℕ) → c < length cells → IsChained cells c → ¬ (IsAmong c rest)
+      → IsChain cells (next_at cells c) rest → IsChain cells c (c ∷ rest)
 
 -- the chain holds exactly the cells that say so
 pub record HasChain (cells : List Cell) (head : ℕ) : Type 0 where
@@ -41,7 +43,8 @@ pub record IsPending (cells : List Cell) (slots : List ℕ) (n : ℕ) : Type 0 w
 
 -- pending darts are those of chained cells, and of cell c from side i on
 abbrev pub AreCovered : List Cell → List ℕ → ℕ → ℕ → Type 0
-AreCovered cells slots c i = (n : ℕ) → IsPending cells slots n → IsChained cells (n / 64) ⊎ ((n / 64 ≡ c) × (i ≤ n % 64))
+AreCovered cells slots c i = (n : ℕ) → IsPending cells slots n → IsChained cells (n / 64)
+    ⊎ ((n / 64 ≡ c) × (i ≤ n % 64))
 
 -- nothing is pending
 abbrev pub IsQuiet : List Cell → List ℕ → Type 0
@@ -74,7 +77,8 @@ written_cell x turn into shift head = record { turn = turn; shift = shift; into 
 abbrev pub written_head : Cell → ℕ → ℕ → ℕ
 written_head x cell head = if x.next == nowhere then cell else head
 
--- The turn of a live cell may fall: to a divisor, or to 0 where it becomes an earlier live cell whose turn divides its own.
+-- The turn of a live cell may fall: to a divisor, or to 0 where it becomes an earlier live cell
+-- whose turn divides its own.
 pub record MayFall (cells : List Cell) (c turn into shift : ℕ) : Type 0 where
   pub made : c < length cells
   pub live : IsLive cells c
@@ -85,28 +89,34 @@ pub record MayFall (cells : List Cell) (c turn into shift : ℕ) : Type 0 where
   pub into_live : turn ≡ 0 → IsLive cells into
   pub into_divides : turn ≡ 0 → turn_at cells c % turn_at cells into ≡ 0
 
--- The table was changed by renaming cells: it keeps its shape, what follows from it is kept, and there is no more to do than before.
+-- The table was changed by renaming cells: it keeps its shape, what follows from it is kept, and
+-- there is no more to do than before.
 pub record HasMoved (t t' : Table) : Type 0 where
   pub shaped : IsShaped t'
   pub followed : IsFollowed t.cells.items t.slots.items t'.cells.items t'.slots.items
-  pub covered : (c i : ℕ) → AreCovered t.cells.items t.slots.items c i → AreCovered t'.cells.items t'.slots.items c i
+  pub covered : (c i : ℕ) → AreCovered t.cells.items t.slots.items c i
+      → AreCovered t'.cells.items t'.slots.items c i
   pub falls : work t'.cells.items ≤ work t.cells.items
 
--- The first cell was taken from the chain, and what was pending is that of the cells still chained and of it.
+-- The first cell was taken from the chain, and what was pending is that of the cells still chained
+-- and of it.
 pub record HasUnchained (t t' : Table) (c : ℕ) : Type 0 where
   pub made : c < length t.cells.items
   pub shaped : IsShaped t'
   pub followed : IsFollowed t.cells.items t.slots.items t'.cells.items t'.slots.items
-  pub covered : AreCovered t.cells.items t.slots.items 0 64 → AreCovered t'.cells.items t'.slots.items c 0
+  pub covered : AreCovered t.cells.items t.slots.items 0 64
+      → AreCovered t'.cells.items t'.slots.items c 0
   pub falls : work t'.cells.items < work t.cells.items
-  pub sound : (atlas : Atlas) → IsSound atlas t.cells.items t.slots.items → IsSound atlas t'.cells.items t'.slots.items
+  pub sound : (atlas : Atlas) → IsSound atlas t.cells.items t.slots.items
+      → IsSound atlas t'.cells.items t'.slots.items
 
 -- The table was changed by joining anew what was pending.
 pub record HasSettled (t t' : Table) : Type 0 where
   pub shaped : IsShaped t'
   pub followed : IsFollowed t.cells.items t.slots.items t'.cells.items t'.slots.items
   pub falls : work t'.cells.items ≤ work t.cells.items
-  pub sound : (atlas : Atlas) → IsSound atlas t.cells.items t.slots.items → IsSound atlas t'.cells.items t'.slots.items
+  pub sound : (atlas : Atlas) → IsSound atlas t.cells.items t.slots.items
+      → IsSound atlas t'.cells.items t'.slots.items
 
 -- a live cell that is in no chain
 abbrev pub fresh_cell : ℕ → Cell

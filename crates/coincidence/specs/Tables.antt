@@ -1,4 +1,5 @@
--- A table as its contracts see it: where its cells come from, what they became, and which darts are joined.
+-- A table as its contracts see it: where its cells come from, what they became, and which darts are
+-- joined.
 use Rattle.std.specs.Prelude.{◌≡◌, ℕ, zero, suc, ◌/◌, ◌%◌, ◌<◌, ◌==◌, nat_lt, ◌&&◌, List, [], ◌∷◌, ◌++◌, length, replicate, slice_index_or, Option, None, Some, if◌then◌else◌}
 use Rattle.tile_model.specs.declared.Letter.{Letter}
 use Rattle.tile_model.specs.declared.Letter.TheVariants.{L, R, X}
@@ -10,7 +11,8 @@ use Rattle.coincidence.specs.Darts.{nowhere, pack, unpack, slot_at}
 use Rattle.coincidence.specs.Cells.{turn_at, into_at, IsLive}
 use Rattle.coincidence.specs.Atlases.{Atlas, walk_of}
 
--- The kinds of the tessellation, where each cell comes from, what the cells became, and the slots of their darts.
+-- The kinds of the tessellation, where each cell comes from, what the cells became, and the slots
+-- of their darts.
 pub record JoinTable : Type 0 where
   pub kinds : List TileKind
   pub origins : List Origin
@@ -27,8 +29,10 @@ origin_at origins c = slice_index_or origins c no_origin
 abbrev pub kind_of : List Origin → ℕ → ℕ
 kind_of origins c = (origin_at origins c).kind
 
--- The walk to a cell: empty for the first cell, else the walk of the dart across which it was made, X, and as many R as its own side has
--- in number. It is followed through so many cells at most; each cell was made across a dart of an earlier one.
+-- The walk to a cell: empty for the first cell, else the walk of the dart across which it was made,
+-- X, and as many R as its own side has
+-- in number. It is followed through so many cells at most; each cell was made across a dart of an
+-- earlier one.
 abbrev pub walk_within : ℕ → List Origin → ℕ → List Letter
 walk_within zero origins c = []
 walk_within (suc n) origins c = if nat_lt 0 c && nat_lt c (length origins) then (walk_within n origins ((origin_at origins c).across / 64) ++ replicate ((origin_at origins c).across % 64) L) ++ X ∷ replicate (origin_at origins c).own R else []
@@ -68,11 +72,16 @@ joined_to t d = joined_in t.cells t.slots d
 pub record ComesFrom (kinds : List TileKind) (origins : List Origin) (c : ℕ) : Type 0 where
   pub earlier : (origin_at origins c).across / 64 < c
   pub own : (origin_at origins c).own < 64
-  pub across : (kind_of origins c, (origin_at origins c).own) ≡ cross kinds (type_in kinds origins (unpack (origin_at origins c).across))
+  pub across : (kind_of origins c, (origin_at origins c).own)
+      ≡ cross kinds (type_in kinds origins (unpack (origin_at origins c).across))
 
--- The table is sound: joined darts lie across from each other, a renamed cell is at the same tile as the one that it became, and a live
+-- The table is sound: joined darts lie across from each other, a renamed cell is at the same tile
+-- as the one that it became, and a live
 -- cell is the same when turned by its turn.
 pub record IsSoundTable (t : JoinTable) : Type 0 where
-  pub joined : (a b : ℕ × ℕ) → joined_to t a ≡ Some b → AreRelated t.kinds (kind_of t.origins 0, 0) (dart_walk t a ++ X ∷ []) (dart_walk t b)
-  pub renamed : (c : ℕ) → c < length t.origins → turn_at t.cells c ≡ 0 → AreAtSameTile t.kinds (kind_of t.origins 0, 0) (dart_walk t (into_at t.cells c, 0)) (dart_walk t (c, 0))
-  pub turned : (c : ℕ) → IsLive t.cells c → AreRelated t.kinds (kind_of t.origins 0, 0) (dart_walk t (c, turn_at t.cells c)) (dart_walk t (c, 0))
+  pub joined : (a b : ℕ × ℕ) → joined_to t a ≡ Some b
+      → AreRelated t.kinds (kind_of t.origins 0, 0) (dart_walk t a ++ X ∷ []) (dart_walk t b)
+  pub renamed : (c : ℕ) → c < length t.origins → turn_at t.cells c ≡ 0
+      → AreAtSameTile t.kinds (kind_of t.origins 0, 0) (dart_walk t (into_at t.cells c, 0)) (dart_walk t (c, 0))
+  pub turned : (c : ℕ) → IsLive t.cells c
+      → AreRelated t.kinds (kind_of t.origins 0, 0) (dart_walk t (c, turn_at t.cells c)) (dart_walk t (c, 0))

@@ -87,8 +87,9 @@ full_is before after n most same layers ready d opened made = record {
   within = subst (λ x. AllWithin after.table (x + 1)) same ready.within;
 }
 
-pub closed_is : (after : RegionState) (n m : ℕ) → m ≡ live_count after.table.cells → IsReady after.table after.radii n → ((d : ℕ × ℕ) → IsDart after.table d → IsJoined after.table d) → IsClosedRegion after m
-closed_is after n m count ready joined = record {
+pub closed_is : (before after : RegionState) (n m : ℕ) → after.layers ≡ before.layers → m ≡ live_count after.table.cells → IsReady after.table after.radii n → ((d : ℕ × ℕ) → IsDart after.table d → IsJoined after.table d) → IsClosedRegion before after m
+closed_is before after n m layers count ready joined = record {
+  layers = layers;
   number = count;
   joined = λ c live. sides_joined after.table ready.table c live (λ d is_dart _. joined d is_dart);
   corners = ready.corners;

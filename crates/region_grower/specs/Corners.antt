@@ -22,9 +22,11 @@ rounds (suc n) t d = option_and_then (further t) (rounds n t d)
 abbrev pub valence_at : JoinTable → ℕ × ℕ → ℕ
 valence_at t d = valence t.kinds (type_at t d)
 
--- The corner is closed: if LX repeated one time less than the valence leads on through joined darts, one more LX leads back.
+-- The corner is closed: if LX repeated one time less than the valence leads on through joined
+-- darts, one more LX leads back.
 abbrev pub IsClosed : JoinTable → ℕ × ℕ → Type 0
-IsClosed t d = (e : ℕ × ℕ) → rounds (valence_at t d - 1) t d ≡ Some e → further t e ≡ Some (name t.cells d)
+IsClosed t d = (e : ℕ × ℕ) → rounds (valence_at t d - 1) t d ≡ Some e → further t e
+    ≡ Some (name t.cells d)
 
 -- every corner is closed: that of each dart of a live cell
 abbrev pub AllClosed : JoinTable → Type 0

@@ -24,7 +24,8 @@ unfoldable pub total : ℕ → (ℕ → ℕ) → ℕ
 total zero f = 0
 total (suc n) f = total n f + f n
 
--- what is left of a dart: two of one that is not joined, one of one that is, nothing of a side that is another dart
+-- what is left of a dart: two of one that is not joined, one of one that is, nothing of a side that
+-- is another dart
 abbrev pub left_of_join : Option (ℕ × ℕ) → ℕ
 left_of_join None = 2
 left_of_join (Some e) = 1
@@ -36,7 +37,8 @@ left_at t c i = if nat_lt i (turn_at t.cells c) then left_of_join (joined_to t (
 abbrev pub unfinished : JoinTable → ℕ
 unfinished t = total (length t.origins) (λ c. total 64 (left_at t c))
 
--- Cells were renamed: those that stay live lie no farther away than before, and there is no more left of the darts.
+-- Cells were renamed: those that stay live lie no farther away than before, and there is no more
+-- left of the darts.
 pub record HasClosedOn (t t' : JoinTable) : Type 0 where
   pub kinds : t'.kinds ≡ t.kinds
   pub origins : t'.origins ≡ t.origins
@@ -51,17 +53,20 @@ pub record HasNear (t : JoinTable) (n : ℕ) : Type 0 where
   pub within : IsWithin t n cell
   pub opened : HasOpen t cell
 
--- A layer: every live cell at distance below r has all its sides joined, some dart of a live cell is not joined, and every corner is closed.
+-- A layer: every live cell at distance below r has all its sides joined, some dart of a live cell
+-- is not joined, and every corner is closed.
 pub record IsLayer (before after : RegionState) (r : ℕ) : Type 0 where
   pub number : r ≡ before.layers + 1
   pub below : r < live_count after.table.cells
   pub layers : after.layers ≡ r
-  pub inner : (c n : ℕ) → IsLive after.table.cells c → IsRadius after.table c n → n < r → AllJoined after.table c
+  pub inner : (c n : ℕ) → IsLive after.table.cells c → IsRadius after.table c n → n < r
+      → AllJoined after.table c
   pub opened : (c : ℕ) × HasOpen after.table c
   pub corners : AllClosed after.table
   pub within : AllWithin after.table (before.layers + 1)
 
--- No more cells may be made, though some live cell at a distance of at most the layers before has a dart that is not joined.
+-- No more cells may be made, though some live cell at a distance of at most the layers before has a
+-- dart that is not joined.
 pub record IsFull (before after : RegionState) (most m : ℕ) : Type 0 where
   pub number : m ≡ most
   pub made : length after.table.origins ≡ most
@@ -71,7 +76,8 @@ pub record IsFull (before after : RegionState) (most m : ℕ) : Type 0 where
   pub within : AllWithin after.table (before.layers + 1)
 
 -- Every dart of the live cells is joined.
-pub record IsClosedRegion (after : RegionState) (n : ℕ) : Type 0 where
+pub record IsClosedRegion (before after : RegionState) (n : ℕ) : Type 0 where
+  pub layers : after.layers ≡ before.layers
   pub number : n ≡ live_count after.table.cells
   pub joined : (c : ℕ) → IsLive after.table.cells c → AllJoined after.table c
   pub corners : AllClosed after.table
@@ -80,15 +86,18 @@ pub record IsClosedRegion (after : RegionState) (n : ℕ) : Type 0 where
 abbrev pub IsGrown : RegionState → RegionState → ℕ → Grown → Type 0
 IsGrown before after most (Layer r) = IsLayer before after r
 IsGrown before after most (Full m) = IsFull before after most m
-IsGrown before after most (Closed n) = IsClosedRegion after n
+IsGrown before after most (Closed n) = IsClosedRegion before after n
 
--- No radius is less than the least number of crossings: so many crossings, where they are fewer than a million, lead to the cell.
+-- No radius is less than the least number of crossings: so many crossings, where they are fewer
+-- than a million, lead to the cell.
 abbrev pub AreReached : JoinTable → List ℕ → Type 0
-AreReached t radii = (c : ℕ) → c < length radii → slice_index radii c < 1000000 → IsWay t (slice_index radii c) c
+AreReached t radii = (c : ℕ) → c < length radii → slice_index radii c < 1000000
+    → IsWay t (slice_index radii c) c
 
 -- across a dart the radius is at most one more
 abbrev pub IsRelaxedAt : JoinTable → List ℕ → ℕ × ℕ → Type 0
-IsRelaxedAt t radii d = (e : ℕ × ℕ) → joined_to t d ≡ Some e → slice_index radii d.0 < 1000000 → slice_index radii e.0 ≤ slice_index radii d.0 + 1
+IsRelaxedAt t radii d = (e : ℕ × ℕ) → joined_to t d ≡ Some e → slice_index radii d.0 < 1000000
+    → slice_index radii e.0 ≤ slice_index radii d.0 + 1
 
 -- so it is across each dart of a cell
 abbrev pub IsRelaxed : JoinTable → List ℕ → ℕ → Type 0
@@ -103,7 +112,8 @@ pub record HasMadeOn (t t' : JoinTable) (n : ℕ) : Type 0 where
   pub within : (m c : ℕ) → IsWithin t m c → IsWithin t' m c
   pub bounded : AllWithin t (n + 1) → AllWithin t' (n + 1)
 
--- What a region keeps between calls: its radii are exact, and no live cell lies farther away than one more than the layers.
+-- What a region keeps between calls: its radii are exact, and no live cell lies farther away than
+-- one more than the layers.
 pub record IsRegion (r : RegionState) : Type 0 where
   pub table : IsTable r.table
   pub long : length r.table.origins ≤ length r.radii

@@ -1,6 +1,5 @@
 -- From what the files hold to the answer that is due.
-use Rattle.std.proofs.Common.{◌≡◌, ℕ, ◌<◌, ◌≤◌, List, Option, Result, Ok, Err, MatchResult, length, refl, sym, ◌∙◌, ap, subst, arith}
-use Rattle.std.specs.Str.Parse.{digits_value}
+use Rattle.std.proofs.Common.{◌≡◌, ℕ, ◌<◌, ◌≤◌, List, Option, None, Result, Ok, Err, MatchResult, length, refl, sym, ◌∙◌, ap, subst, arith}
 use Rattle.tile_model.specs.declared.Letter.{Letter}
 use Rattle.tile_model.specs.Tessellations.{TileKind}
 use Rattle.tile_model.specs.Validity.{IsValid}
@@ -15,25 +14,26 @@ use Rattle.rules_file.specs.declared.fault.Part.{Part}
 use Rattle.rules_file.specs.Spelling.{IsTextOf, IsRulesFile}
 use Rattle.rules_file.specs.Faults.{IsFirstFault}
 use Rattle.structure_check.specs.Broken.{IsFirstBroken}
-use Rattle.tile_model.specs.WalkTexts.{walk_text}
 use Rattle.walker_cli.specs.declared.answer.Role.{Role}
 use Rattle.walker_cli.specs.declared.answer.Role.TheVariants.{Tess, Rules}
 use Rattle.walker_cli.specs.declared.answer.Answer.{Answer}
 use Rattle.walker_cli.specs.declared.answer.Answer.TheVariants.{TypeTold, Accepted, Usage, FileTooLong, TessLine, TessKinds, RulesSyntax, RulesShape}
 use Rattle.walker_cli.specs.declared.load.Refusal.{Refusal}
-use Rattle.walker_cli.specs.declared.answer.Saying.TheVariants.{Due, FileFault}
+use Rattle.walker_cli.specs.declared.answer.Saying.TheVariants.{Due, FileFault, StoreFault}
 use Rattle.walker_cli.specs.declared.load.Refusal.TheVariants.{Said, Memory}
-use Rattle.walker_cli.specs.Tasks.{Task, TellType, CheckRules, RunSession, Ask, HaveNoForm}
-use Rattle.walker_cli.specs.Held.{Loaded, Refused, Outcome, Holds, HoldsTooMany, IsTess, IsRules, tess_limit, rules_limit, broken_at, tess_too_long, tess_line, tess_kinds, tess_loaded, rules_too_long, rules_syntax, rules_shape, rules_broken, rules_loaded}
+use Rattle.walker_cli.specs.Tasks.{Task, Ask, HaveNoForm}
+use Rattle.walker_cli.specs.Held.{Loaded, Refused, Outcome, Holds, HoldsTooMany, IsTess, IsRules, IsMade, RulesOf, tess_limit, rules_limit, broken_at, tess_too_long, tess_line, tess_kinds, tess_loaded, rules_too_long, rules_syntax, rules_shape, rules_broken, rules_loaded}
 use Rattle.walker_cli.specs.Runs.{Call}
-use Rattle.walker_cli.specs.Due.{Contents, TypeRow, type_no_tess, type_no_kind, type_told, CheckRow, check_no_tess, check_no_rules, check_accepted, Row, FetchesFor, IsDue, no_form, by_task}
-use Rattle.walker_cli.specs.Loading.{IsRefusedAs, IsOfOutside, IfPlan, FitsTask, ServesOver}
-use Rattle.tile_model.proofs.WalkTexts.{one_walk}
+use Rattle.walker_cli.specs.Due.{Contents, Makes, TypeRow, type_no_tess, type_no_kind, type_told, CheckRow, check_no_tess, check_no_rules, check_accepted, Row, FetchesFor, IsDue, no_form, by_task}
+use Rattle.walker_cli.specs.Loading.{IsRefusedAs, IsOfOutside, IfPlan, FitsTask, ServesOver, TellsStoreFault, PlansStored, RulesCome}
+use Rattle.structure_check.specs.Rules.{TreeRules}
+use Rattle.walker_cli.proofs.OneTask.{one_task}
 
 -- what a refusal that tells of the outside is taken for
 pub outside_comes : (answer : Answer) (refusal : Refusal) → IsOfOutside refusal → IsRefusedAs answer refusal
 outside_comes answer (Said (Due other)) outside = absurd outside
 outside_comes answer (Said (FileFault role)) outside = tt
+outside_comes answer (Said StoreFault) outside = absurd outside
 outside_comes answer Memory outside = tt
 
 pub outside_serves : (kinds : List TileKind) (a : TreeAutomaton) (k : ℕ) (refusal : Refusal) → IsOfOutside refusal → IfPlan (Err refusal) (ServesOver kinds a k)
@@ -43,32 +43,29 @@ outside_serves kinds a k Memory outside = tt
 pub refusal_fits : (contents : Contents) (task : Task) (refusal : Refusal)
     → ((answer : Answer) → refusal ≡ Said (Due answer) → Row contents task answer)
     → ((role : Role) → refusal ≡ Said (FileFault role) → FetchesFor contents task role)
+    → (refusal ≡ Said StoreFault → ⊥)
     → IfPlan (Err refusal) (FitsTask contents task)
-refusal_fits contents task (Said (Due answer)) row fetches = row answer refl
-refusal_fits contents task (Said (FileFault role)) row fetches = fetches role refl
-refusal_fits contents task Memory row fetches = tt
+refusal_fits contents task (Said (Due answer)) row fetches plain = row answer refl
+refusal_fits contents task (Said (FileFault role)) row fetches plain = fetches role refl
+refusal_fits contents task (Said StoreFault) row fetches plain = absurd (plain refl)
+refusal_fits contents task Memory row fetches plain = tt
 
--- words ask for one task
-pub one_task : (words : List (List ℕ)) (task other : Task) → Ask words task → Ask words other → task ≡ other
-one_task words (TellType tess k walk) (TellType tess' k' walk') one two =
-    let same_tess : tess ≡ tess' = cc (one.spelled, two.spelled) in
-    let digits : one.digits ≡ two.digits = cc (one.spelled, two.spelled) in
-    let text : walk_text walk ≡ walk_text walk' = cc (one.spelled, two.spelled) in
-    let same_kind : k ≡ k' = sym one.number.value ∙ ap (λ (l : List ℕ). digits_value 10 l) digits ∙ two.number.value in
-    cc (same_tess, same_kind, one_walk walk walk' text)
-one_task words (TellType tess k walk) (CheckRules tess' rules') one two = absurd (cc (one.spelled, two))
-one_task words (CheckRules tess rules) (TellType tess' k' walk') one two = absurd (cc (one, two.spelled))
-one_task words (CheckRules tess rules) (CheckRules tess' rules') one two = cc (one, two)
-one_task words (TellType tess k walk) (RunSession tess' k' rules') one two = absurd (cc (one.spelled, two.spelled))
-one_task words (CheckRules tess rules) (RunSession tess' k' rules') one two = absurd (cc (one, two.spelled))
-one_task words (RunSession tess k rules) (TellType tess' k' walk') one two = absurd (cc (one.spelled, two.spelled))
-one_task words (RunSession tess k rules) (CheckRules tess' rules') one two = absurd (cc (one.spelled, two))
-one_task words (RunSession tess k rules) (RunSession tess' k' rules') one two =
-    let same_tess : tess ≡ tess' = cc (one.spelled, two.spelled) in
-    let digits : one.digits ≡ two.digits = cc (one.spelled, two.spelled) in
-    let same_rules : rules ≡ rules' = cc (one.spelled, two.spelled) in
-    let same_kind : k ≡ k' = sym one.number.value ∙ ap (λ (l : List ℕ). digits_value 10 l) digits ∙ two.number.value in
-    cc (same_tess, same_kind, same_rules)
+-- a refusal of what is fetched does not tell of a file that could not be written
+pub refused_plain : (refusal : Refusal)
+    → (refusal ≡ Said StoreFault → ⊥)
+    → IfPlan (Err refusal) (λ plan. TellsStoreFault plan → ⊥)
+refused_plain (Said (Due answer)) plain = λ fault. fault
+refused_plain (Said (FileFault role)) plain = λ fault. fault
+refused_plain (Said StoreFault) plain = λ fault. plain refl
+refused_plain Memory plain = tt
+
+-- where it tells of the outside or of memory, nothing is said of what is stored
+pub outside_stored : (contents : Contents) (out : List ℕ) (a : TreeAutomaton) (refusal : Refusal)
+    → IsOfOutside refusal → IfPlan (Err refusal) (PlansStored contents out a)
+outside_stored contents out a (Said (Due answer)) outside = absurd outside
+outside_stored contents out a (Said (FileFault role)) outside = tt
+outside_stored contents out a (Said StoreFault) outside = tt
+outside_stored contents out a Memory outside = tt
 
 -- what is known of the tessellation that is read from a file, or of the refusal
 pub record TessRead {T : Type 0} (contents : List ℕ → Option (List ℕ)) (file : List ℕ) (view : T → List TileKind) (r : Result T Refusal) : Type 0 where
@@ -124,48 +121,54 @@ pub record RulesRead {T : Type 0} (contents : List ℕ → Option (List ℕ)) (k
   pub broken : (bytes : List ℕ) (a : TreeAutomaton) (n first second : ℕ) → Holds contents file rules_limit bytes → IsRulesFile bytes a → IsFirstBroken kinds a n first second → MatchResult r (λ _. ⊥) (IsRefusedAs (broken_at n first second))
   pub loaded : (bytes : List ℕ) (a : TreeAutomaton) → Holds contents file rules_limit bytes → IsRulesFile bytes a → IsAccepted kinds a → MatchResult r (λ t. view t ≡ a) IsOfOutside
 
-abbrev pub RulesCome : {T : Type 0} → (T → TreeAutomaton) → Result T Refusal → Outcome TreeAutomaton → Type 0
-RulesCome view r (Loaded a) = MatchResult r (λ t. view t ≡ a) IsOfOutside
-RulesCome view r (Refused answer) = MatchResult r (λ _. ⊥) (IsRefusedAs answer)
+pub rules_come : (contents : List ℕ → Option (List ℕ)) (kinds : List TileKind) (file : List ℕ) (r : Result TreeRules Refusal) → RulesRead {T = TreeRules} contents kinds file (λ rules. rules.automaton) r → {outcome : Outcome TreeAutomaton} → IsRules contents kinds file outcome → RulesCome outcome r
+rules_come contents kinds file r known (rules_too_long long) = known.too_long long
+rules_come contents kinds file r known (rules_syntax bytes holds none) = known.no_text bytes holds none
+rules_come contents kinds file r known (rules_shape bytes d part index holds text first) = known.misshapen bytes d part index holds text first
+rules_come contents kinds file r known (rules_broken bytes a n first second holds spelled broken) = known.broken bytes a n first second holds spelled broken
+rules_come contents kinds file r known (rules_loaded bytes a holds spelled accepted) = known.loaded bytes a holds spelled accepted
 
-pub rules_come : {T : Type 0} (contents : List ℕ → Option (List ℕ)) (kinds : List TileKind) (file : List ℕ) (view : T → TreeAutomaton) (r : Result T Refusal) → RulesRead contents kinds file view r → {outcome : Outcome TreeAutomaton} → IsRules contents kinds file outcome → RulesCome view r outcome
-rules_come contents kinds file view r known (rules_too_long long) = known.too_long long
-rules_come contents kinds file view r known (rules_syntax bytes holds none) = known.no_text bytes holds none
-rules_come contents kinds file view r known (rules_shape bytes d part index holds text first) = known.misshapen bytes d part index holds text first
-rules_come contents kinds file view r known (rules_broken bytes a n first second holds spelled broken) = known.broken bytes a n first second holds spelled broken
-rules_come contents kinds file view r known (rules_loaded bytes a holds spelled accepted) = known.loaded bytes a holds spelled accepted
+-- what is known of rules that are found, or of the refusal
+abbrev pub RulesFound : Contents → List TileKind → Option (List ℕ) → Result TreeRules Refusal → Type 0
+RulesFound contents kinds rules r = (outcome : Outcome TreeAutomaton) → RulesOf contents kinds rules outcome → RulesCome outcome r
 
 -- the three ways in which a check ends
-pub check_unread : {T : Type 0} (contents : Contents) (tess rules : List ℕ) (view : T → List TileKind) (refusal : Refusal) → TessRead {T = T} contents tess view (Err refusal) → {answer : Answer} → CheckRow contents tess rules answer → IsRefusedAs answer refusal
+pub check_unread : {T : Type 0} (contents : Contents) (tess : List ℕ) (rules : Option (List ℕ)) (view : T → List TileKind) (refusal : Refusal) → TessRead {T = T} contents tess view (Err refusal) → {answer : Answer} → CheckRow contents tess rules answer → IsRefusedAs answer refusal
 check_unread contents tess rules view refusal known (check_no_tess answer is) = tess_comes contents tess view (Err refusal) known is
 check_unread contents tess rules view refusal known (check_no_rules kinds answer is refused) = outside_comes answer refusal (tess_comes contents tess view (Err refusal) known is)
 check_unread contents tess rules view refusal known (check_accepted kinds a is loaded) = outside_comes (Accepted (length a.states) (length a.corners)) refusal (tess_comes contents tess view (Err refusal) known is)
 
-pub check_failed : {T S : Type 0} (contents : Contents) (tess rules : List ℕ) (view : T → List TileKind) (t : T) (tables : S → TreeAutomaton) (refusal : Refusal) → TessRead contents tess view (Ok t) → RulesRead {T = S} contents (view t) rules tables (Err refusal) → {answer : Answer} → CheckRow contents tess rules answer → IsRefusedAs answer refusal
-check_failed contents tess rules view t tables refusal known read (check_no_tess answer is) = absurd (tess_comes contents tess view (Ok t) known is)
-check_failed contents tess rules view t tables refusal known read (check_no_rules kinds answer is refused) =
+pub check_failed : {T : Type 0} (contents : Contents) (tess : List ℕ) (rules : Option (List ℕ)) (view : T → List TileKind) (t : T) (refusal : Refusal) → TessRead contents tess view (Ok t) → RulesFound contents (view t) rules (Err refusal) → {answer : Answer} → CheckRow contents tess rules answer → IsRefusedAs answer refusal
+check_failed contents tess rules view t refusal known found (check_no_tess answer is) = absurd (tess_comes contents tess view (Ok t) known is)
+check_failed contents tess rules view t refusal known found (check_no_rules kinds answer is refused) =
     let same : view t ≡ kinds = tess_comes contents tess view (Ok t) known is in
-    rules_come contents (view t) rules tables (Err refusal) read (subst (λ (ks : List TileKind). IsRules contents ks rules (Refused answer)) (sym same) refused)
-check_failed contents tess rules view t tables refusal known read (check_accepted kinds a is loaded) =
+    found (Refused answer) (subst (λ (ks : List TileKind). RulesOf contents ks rules (Refused answer)) (sym same) refused)
+check_failed contents tess rules view t refusal known found (check_accepted kinds a is loaded) =
     let same : view t ≡ kinds = tess_comes contents tess view (Ok t) known is in
-    outside_comes (Accepted (length a.states) (length a.corners)) refusal (rules_come contents (view t) rules tables (Err refusal) read (subst (λ (ks : List TileKind). IsRules contents ks rules (Loaded a)) (sym same) loaded))
+    outside_comes (Accepted (length a.states) (length a.corners)) refusal (found (Loaded a) (subst (λ (ks : List TileKind). RulesOf contents ks rules (Loaded a)) (sym same) loaded))
 
-pub check_passed : {T S : Type 0} (contents : Contents) (tess rules : List ℕ) (view : T → List TileKind) (t : T) (tables : S → TreeAutomaton) (s : S) → TessRead contents tess view (Ok t) → RulesRead contents (view t) rules tables (Ok s) → {answer : Answer} → CheckRow contents tess rules answer → Accepted (length (tables s).states) (length (tables s).corners) ≡ answer
-check_passed contents tess rules view t tables s known read (check_no_tess answer is) = absurd (tess_comes contents tess view (Ok t) known is)
-check_passed contents tess rules view t tables s known read (check_no_rules kinds answer is refused) =
+pub check_passed : {T : Type 0} (contents : Contents) (tess : List ℕ) (rules : Option (List ℕ)) (view : T → List TileKind) (t : T) (r : TreeRules) → TessRead contents tess view (Ok t) → RulesFound contents (view t) rules (Ok r) → {answer : Answer} → CheckRow contents tess rules answer → Accepted (length r.automaton.states) (length r.automaton.corners) ≡ answer
+check_passed contents tess rules view t r known found (check_no_tess answer is) = absurd (tess_comes contents tess view (Ok t) known is)
+check_passed contents tess rules view t r known found (check_no_rules kinds answer is refused) =
     let same : view t ≡ kinds = tess_comes contents tess view (Ok t) known is in
-    absurd (rules_come contents (view t) rules tables (Ok s) read (subst (λ (ks : List TileKind). IsRules contents ks rules (Refused answer)) (sym same) refused))
-check_passed contents tess rules view t tables s known read (check_accepted kinds a is loaded) =
+    absurd (found (Refused answer) (subst (λ (ks : List TileKind). RulesOf contents ks rules (Refused answer)) (sym same) refused))
+check_passed contents tess rules view t r known found (check_accepted kinds a is loaded) =
     let same : view t ≡ kinds = tess_comes contents tess view (Ok t) known is in
-    let one : tables s ≡ a = rules_come contents (view t) rules tables (Ok s) read (subst (λ (ks : List TileKind). IsRules contents ks rules (Loaded a)) (sym same) loaded) in
+    let one : r.automaton ≡ a = found (Loaded a) (subst (λ (ks : List TileKind). RulesOf contents ks rules (Loaded a)) (sym same) loaded) in
     λ i. Accepted (length (one i).states) (length (one i).corners)
 
--- what is known of a file holds of what the files held before they were last read
-pub rules_kept : {old new : List ℕ → Option (List ℕ)} → ((name : List ℕ) → new name ≡ old name) → (kinds : List TileKind) (file : List ℕ) (outcome : Outcome TreeAutomaton) → IsRules new kinds file outcome → IsRules old kinds file outcome
-rules_kept same kinds file outcome is = subst (λ (contents : List ℕ → Option (List ℕ)). IsRules contents kinds file outcome) (λ i name. same name i) is
+-- the rules that are found are those that are made
+pub made_same : {T : Type 0} (contents : Contents) (tess : List ℕ) (view : T → List TileKind) (t : T) (r : Result TreeRules Refusal) (kinds : List TileKind) (a : TreeAutomaton) → TessRead contents tess view (Ok t) → RulesFound contents (view t) None r → Makes contents tess kinds a → RulesCome (Loaded a) r
+made_same contents tess view t r kinds a known found makes =
+    let same : view t ≡ kinds = tess_comes contents tess view (Ok t) known makes.loaded in
+    found (Loaded a) (subst (λ (ks : List TileKind). IsMade ks (Loaded a)) (sym same) makes.made)
 
-pub read_kept : {T : Type 0} {old new : List ℕ → Option (List ℕ)} → ((name : List ℕ) → new name ≡ old name) → (kinds : List TileKind) (file : List ℕ) (view : T → TreeAutomaton) (r : Result T Refusal) → RulesRead new kinds file view r → RulesRead old kinds file view r
-read_kept same kinds file view r known = subst (λ (contents : List ℕ → Option (List ℕ)). RulesRead contents kinds file view r) (λ i name. same name i) known
+-- what is known of rules holds of what the files held before they were last read
+pub rules_kept : {old new : List ℕ → Option (List ℕ)} → ((name : List ℕ) → new name ≡ old name) → (kinds : List TileKind) (rules : Option (List ℕ)) (outcome : Outcome TreeAutomaton) → RulesOf new kinds rules outcome → RulesOf old kinds rules outcome
+rules_kept same kinds rules outcome is = subst (λ (contents : List ℕ → Option (List ℕ)). RulesOf contents kinds rules outcome) (λ i name. same name i) is
+
+pub found_kept : {old new : List ℕ → Option (List ℕ)} → ((name : List ℕ) → new name ≡ old name) → (kinds : List TileKind) (rules : Option (List ℕ)) (r : Result TreeRules Refusal) → RulesFound new kinds rules r → RulesFound old kinds rules r
+found_kept same kinds rules r found = subst (λ (contents : List ℕ → Option (List ℕ)). RulesFound contents kinds rules r) (λ i name. same name i) found
 
 -- words in no form are answered in one way
 pub formless : (call : Call) → HaveNoForm call.words → {answer : Answer} → IsDue call answer → answer ≡ Usage

@@ -1,5 +1,9 @@
 pub mod Lists
 pub mod Reading
+pub mod OneTask
+pub mod Options
+pub mod Making
+pub mod FileRows
 pub mod Deciding
 pub mod Sessions
 pub mod Settling

@@ -1,9 +1,10 @@
 -- What a list of words that begins with a form's word may ask for.
-use Rattle.std.proofs.Common.{◌≡◌, ℕ, List, [], ◌∷◌, codes, Option, Some, None, IfNone, sym, ◌∙◌, ap, subst}
+use Rattle.std.proofs.Common.{◌≡◌, ℕ, List, [], ◌∷◌, codes, Option, arith, sym, ◌∙◌, ap, subst}
 use Rattle.tile_model.specs.declared.Letter.{Letter}
 use Rattle.tile_model.specs.WalkTexts.{walk_text}
 use Rattle.short_numbers.specs.Numbers.{IsNumber}
-use Rattle.walker_cli.specs.Tasks.{Task, TellType, CheckRules, RunSession, IsKindForm, IsRunForm, Ask}
+use Rattle.walker_cli.proofs.OneTask.{letter}
+use Rattle.walker_cli.specs.Tasks.{Task, TellType, CheckRules, RunSession, LearnRules, IsKindForm, IsRunForm, IsLearnForm, Ask, RunOptions, LearnOptions}
 
 -- a kind and a walk that two words write
 pub record IsStart (digits letters : List ℕ) (n : ℕ) (walk : List Letter) : Type 0 where
@@ -35,29 +36,12 @@ kind_task words tess digits letters is (TellType t k walk) ask =
     }
 kind_task words tess digits letters is (CheckRules t r) ask = absurd (cc (is, ask))
 kind_task words tess digits letters is (RunSession t n r) ask = absurd (cc (is, ask.spelled))
+kind_task words tess digits letters is (LearnRules t r) ask = let other : 107 ≡ 108 = ap (letter 0) (sym is ∙ ask.spelled) in absurd (omega (arith, other))
 
-pub run_form : (words : List (List ℕ)) (tess digits rules : List ℕ) (n : ℕ) → words ≡ codes "run" ∷ tess ∷ digits ∷ codes "--rules" ∷ rules ∷ [] → IsNumber digits n → IsRunForm words tess n rules
-run_form words tess digits rules n is number = record { digits = digits; number = number; spelled = is }
+-- a run form, from its words and its options
+pub run_form : (words : List (List ℕ)) (tess digits : List ℕ) (options : List (List ℕ)) (n : ℕ) (rules : Option (List ℕ)) → words ≡ codes "run" ∷ tess ∷ digits ∷ options → IsNumber digits n → RunOptions options rules → IsRunForm words tess n rules
+run_form words tess digits options n rules is number chosen = record { digits = digits; options = options; number = number; chosen = chosen; spelled = is }
 
--- a task that the words of a form `run` ask for
-pub record IsRunTask (tess digits rules : List ℕ) (task : Task) : Type 0 where
-  pub k : ℕ
-  pub is : task ≡ RunSession tess k rules
-  pub number : IsNumber digits k
-
-pub run_task : (words : List (List ℕ)) (tess digits rules : List ℕ) → words ≡ codes "run" ∷ tess ∷ digits ∷ codes "--rules" ∷ rules ∷ [] → (task : Task) → Ask words task → IsRunTask tess digits rules task
-run_task words tess digits rules is (RunSession t k r) ask =
-    let same_tess : t ≡ tess = cc (is, ask.spelled) in
-    let same_digits : ask.digits ≡ digits = cc (is, ask.spelled) in
-    let same_rules : r ≡ rules = cc (is, ask.spelled) in
-    record {
-      k = k;
-      is = λ i. RunSession (same_tess i) k (same_rules i);
-      number = subst (λ (l : List ℕ). IsNumber l k) same_digits ask.number;
-    }
-run_task words tess digits rules is (TellType t n w) ask = absurd (cc (is, ask.spelled))
-run_task words tess digits rules is (CheckRules t r) ask = absurd (cc (is, ask))
-
-pub if_none : {A : Type 0} (P : Type 0) (r : Option A) → P → IfNone r P
-if_none P (Some x) holds = tt
-if_none P None holds = holds
+-- and a learn form
+pub learn_form : (words : List (List ℕ)) (tess : List ℕ) (options : List (List ℕ)) (out : Option (List ℕ)) → words ≡ codes "learn" ∷ tess ∷ options → LearnOptions options out → IsLearnForm words tess out
+learn_form words tess options out is chosen = record { options = options; chosen = chosen; spelled = is }

@@ -1,12 +1,16 @@
 -- From what the steps of a call came to to its plan.
-use Rattle.std.proofs.Common.{◌≡◌, Result, Ok, Err, IfOk, refl, sym, subst}
+use Rattle.way_io.specs.Counts.{Rose}
+use Rattle.std.proofs.Common.{◌≡◌, ℕ, Result, Ok, Err, IfOk, inl, refl, sym, subst}
 use Rattle.std.specs.declared.alloc.AllocError.{AllocError}
 use Rattle.walker_cli.specs.declared.answer.Role.{Role}
-use Rattle.walker_cli.specs.declared.answer.Saying.TheVariants.{Due, FileFault}
+use Rattle.walker_cli.specs.declared.answer.Saying.TheVariants.{Due, FileFault, StoreFault}
 use Rattle.walker_cli.specs.declared.decide.Plan.{Plan}
+use Rattle.walker_cli.specs.declared.decide.Plan.TheVariants.{Say, Serve}
 use Rattle.walker_cli.specs.declared.load.Refusal.{Refusal}
 use Rattle.walker_cli.specs.declared.load.Refusal.TheVariants.{Said, Memory}
-use Rattle.walker_cli.specs.Loading.{IfPlan, SaysSome, HasKind, TellsFault, Settles}
+use Rattle.walker_cli.specs.Loading.{IfPlan, SaysSome, IsReady, TellsFault, TellsStoreFault, KeepsByPlan, Settles}
+use Rattle.walker_cli.specs.Due.{Contents}
+use Rattle.way_io.specs.Contents.{KeepsAll}
 
 -- what holds of the plan that the steps came to holds of the plan of the call
 pub settled : (P : Plan → Type 0) (told : Result Plan Refusal) (r : Result Plan AllocError)
@@ -22,10 +26,41 @@ some_said (Ok plan) said = said
 some_said (Err (Said saying)) said = tt
 some_said (Err Memory) said = tt
 
-pub has_kind : (told : Result Plan Refusal) → IfOk told HasKind → IfPlan told HasKind
-has_kind (Ok plan) has = has
-has_kind (Err (Said saying)) has = tt
-has_kind (Err Memory) has = tt
+pub is_ready : (told : Result Plan Refusal) → IfOk told IsReady → IfPlan told IsReady
+is_ready (Ok plan) ready = ready
+is_ready (Err (Said saying)) ready = tt
+is_ready (Err Memory) ready = tt
+
+-- where nothing was stored no plan tells that storing failed
+pub plain_cause : (told : Result Plan Refusal) (Q : Type 0)
+    → IfPlan told (λ plan. TellsStoreFault plan → ⊥)
+    → IfPlan told (λ plan. TellsStoreFault plan → Q)
+plain_cause (Ok plan) Q plain = λ fault. absurd (plain fault)
+plain_cause (Err (Said saying)) Q plain = λ fault. absurd (plain fault)
+plain_cause (Err Memory) Q plain = tt
+
+-- where all files are as before they are so by each plan
+keeps_plan : (old new : Contents) (plan : Plan) → KeepsAll old new → KeepsByPlan old new plan
+keeps_plan old new (Say saying) same = inl same
+keeps_plan old new (Serve rules k) same = same
+
+pub kept_plan : (old new : Contents) (told : Result Plan Refusal)
+    → KeepsAll old new → IfPlan told (KeepsByPlan old new)
+kept_plan old new (Ok plan) same = keeps_plan old new plan same
+kept_plan old new (Err (Said saying)) same = inl same
+kept_plan old new (Err Memory) same = tt
+
+-- the same where the files were fetched before
+pub kept_since : (old between new : Contents) (told : Result Plan Refusal)
+    → KeepsAll old between → IfPlan told (KeepsByPlan between new)
+    → IfPlan told (KeepsByPlan old new)
+kept_since old between new told same kept =
+    subst (λ (c : Contents). IfPlan told (KeepsByPlan c new)) (λ i name. same name i) kept
+
+-- what holds of the plan that the steps came to holds of it where they came to one
+pub if_plan : (P : Plan → Type 0) (told : Result Plan Refusal) → IfPlan told P → IfOk told P
+if_plan P (Ok plan) holds = holds
+if_plan P (Err refusal) holds = tt
 
 -- a plan that tells of a file that could not be read comes from such a refusal
 pub fault_known : (told : Result Plan Refusal) (Q : Type 0)
@@ -35,4 +70,12 @@ pub fault_known : (told : Result Plan Refusal) (Q : Type 0)
 fault_known (Ok plan) Q plain failed = λ fault. absurd (plain fault)
 fault_known (Err (Said (Due answer))) Q plain failed = λ fault. absurd fault
 fault_known (Err (Said (FileFault role))) Q plain failed = λ fault. failed role refl
+fault_known (Err (Said StoreFault)) Q plain failed = λ fault. absurd fault
 fault_known (Err Memory) Q plain failed = tt
+
+-- a store that failed after files were fetched has failed in all
+pub store_since : (told : Result Plan Refusal) (before between after : ℕ) → between ≡ before
+    → IfPlan told (λ plan. TellsStoreFault plan → Rose between after)
+    → IfPlan told (λ plan. TellsStoreFault plan → Rose before after)
+store_since told before between after same failed =
+    subst (λ (n : ℕ). IfPlan told (λ plan. TellsStoreFault plan → Rose n after)) same failed

@@ -2,6 +2,7 @@
 use Rattle.std.proofs.Common.{◌≡◌, ℕ, ◌<◌, ◌≤◌, IsTrue, List, [], ◌⊎◌, inl, inr, sym, ◌∙◌, ap, subst, length, arith}
 use Rattle.tile_model.specs.Tessellations.{TileKind}
 use Rattle.tree_model.specs.Automata.{TreeAutomaton}
+use Rattle.tree_model.specs.Conditions.{IsAccepted}
 use Rattle.line_server.specs.Answering.{over_walks}
 use Rattle.tree_laws.specs.Laws.{OfEachTree}
 use Rattle.line_server.specs.Laws.{OutputsAgree}
@@ -11,7 +12,7 @@ use Rattle.line_server.specs.Endings.{IsBegun}
 use Rattle.walker_cli.specs.declared.status.Status.TheVariants.{Done, Memory, ReadFault, WriteFault, InputTooLong}
 use Rattle.walker_cli.specs.declared.answer.Role.{Role}
 use Rattle.walker_cli.specs.declared.answer.Saying.{Saying}
-use Rattle.walker_cli.specs.declared.answer.Saying.TheVariants.{Due, FileFault}
+use Rattle.walker_cli.specs.declared.answer.Saying.TheVariants.{Due, FileFault, StoreFault}
 use Rattle.walker_cli.specs.Runs.{Run, call_of}
 use Rattle.walker_cli.specs.StatusLines.{OfStream, OfMemory, class_of}
 use Rattle.walker_cli.specs.Due.{Serves, IsFileFault}
@@ -83,13 +84,13 @@ module _ (run : Run) (answering : Answering) where
 
 module _ (run : Run) (outputs_agree : OfEachTree OutputsAgree) where
   -- the commands were answered
-  stream_answers : (kinds : List TileKind) (a : TreeAutomaton) (k : ℕ) → IsTrue run.source_tells → Serves (call_of run) kinds a k → Streams run (over_walks kinds a k) → AnswersStream run kinds a k
-  stream_answers kinds a k gives serves ends =
+  stream_answers : (kinds : List TileKind) (a : TreeAutomaton) (k : ℕ) → IsTrue run.source_tells → Serves (call_of run) kinds a k → IsAccepted kinds a → Streams run (over_walks kinds a k) → AnswersStream run kinds a k
+  stream_answers kinds a k gives serves accepted ends =
       let by_walks = over_walks kinds a k in
       record {
         answered = stream_answered run by_walks gives ends;
         answered_over_tree = λ takes few. elim (stream_answered run by_walks gives ends takes few) [
-          | inl done ↦ inl (done.0, stands_over_tree outputs_agree (call_of run) kinds a k run.before.left run.after.left run.before.taken run.after.taken serves done.1)
+          | inl done ↦ inl (done.0, stands_over_tree outputs_agree (call_of run) kinds a k run.before.left run.after.left run.before.taken run.after.taken serves accepted done.1)
           | inr outside ↦ inr outside
         ];
         refused = stream_over run by_walks gives ends;
@@ -118,6 +119,7 @@ module _ (run : Run) (outputs_agree : OfEachTree OutputsAgree) where
   fault_begun : (saying : Saying) → IsFileFault saying → BeginsLine run saying → (role : Role) × BeginsLine run (FileFault role)
   fault_begun (Due answer) fault begins = absurd fault
   fault_begun (FileFault role) fault begins = (role, begins)
+  fault_begun StoreFault fault begins = absurd fault
 
   -- a run that tells of a file that could not be read
   said_outside : (saying : Saying) → IsFileFault saying → Says run saying → IsOutside run.status
@@ -137,8 +139,8 @@ module _ (run : Run) (outputs_agree : OfEachTree OutputsAgree) where
   pub stream_row : EndsRun run → IsTrue run.files_tell → IsTrue run.source_tells → (kinds : List TileKind) (a : TreeAutomaton) (k : ℕ) → Serves (call_of run) kinds a k → AnswersStream run kinds a k
   stream_row (no_plan is kept) told gives kinds a k serves =
       stream_unread kinds a k (between run is tt) (memory_unread is) (λ broke. absurd (cc (is, broke))) (λ want. kept)
-  stream_row (with_line saying known counted formless says) told gives kinds a k serves =
+  stream_row (with_line saying known counted stored files formless says) told gives kinds a k serves =
       let fault = (known told).alone kinds a k serves in
-      stream_unread kinds a k (said_outside saying fault says) (said_stream run saying says) (λ broke. fault_begun saying fault (begun run saying known counted says broke)) (silent run saying says)
-  stream_row (with_stream kinds' a' k' known asked ends) told gives kinds a k serves =
-      of_these kinds' a' k' (known told) kinds a k serves (stream_answers kinds' a' k' gives (known told).serves ends)
+      stream_unread kinds a k (said_outside saying fault says) (said_stream run saying says) (λ broke. fault_begun saying fault (begun run saying known counted stored says broke)) (silent run saying says)
+  stream_row (with_stream kinds' a' k' known accepted kept asked ends) told gives kinds a k serves =
+      of_these kinds' a' k' (known told) kinds a k serves (stream_answers kinds' a' k' gives (known told).serves accepted ends)

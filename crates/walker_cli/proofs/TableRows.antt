@@ -6,18 +6,20 @@ use Rattle.tree_model.specs.Automata.{TreeAutomaton}
 use Rattle.way_io.specs.Counts.{Rose}
 use Rattle.line_server.specs.Answering.{Answering}
 use Rattle.walker_cli.specs.declared.status.Status.{Status}
-use Rattle.walker_cli.specs.declared.status.Status.TheVariants.{Done, Usage as UsageStatus, FileFault as FileFaultStatus, Memory, WriteFault}
+use Rattle.walker_cli.specs.declared.status.Status.TheVariants.{Done, Usage as UsageStatus, FileFault as FileFaultStatus, StoreFault as StoreFaultStatus, Memory, WriteFault}
 use Rattle.walker_cli.specs.declared.answer.Saying.{Saying}
-use Rattle.walker_cli.specs.declared.answer.Saying.TheVariants.{Due, FileFault}
+use Rattle.walker_cli.specs.declared.answer.Saying.TheVariants.{Due, FileFault, StoreFault}
 use Rattle.walker_cli.specs.declared.answer.Answer.{Answer}
 use Rattle.walker_cli.specs.declared.answer.Answer.TheVariants.{TypeTold, Accepted, Usage}
-use Rattle.walker_cli.specs.Tasks.{TellType, CheckRules, RunSession, HaveNoForm, AreNotOfRun}
+use Rattle.walker_cli.specs.Tasks.{TellType, CheckRules, RunSession, LearnRules, HaveNoForm, AreNotOfRun}
 use Rattle.walker_cli.specs.Runs.{Run, call_of}
 use Rattle.walker_cli.specs.StatusLines.{OfLine, OfOutside, OfStream, OfMemory, class_of, status_of, line_of, saying_status, saying_line}
-use Rattle.walker_cli.specs.Held.{tess_loaded, rules_loaded}
-use Rattle.walker_cli.specs.Due.{IsDue, ServesSome, IsFileFault, type_told, check_accepted, by_task}
-use Rattle.walker_cli.specs.Outcome.{Writes, WritesNothing, IsOutside, ComesExactly, Gives, GivesAtOnce, TellsType, TellsAccepted}
-use Rattle.walker_cli.specs.Promise.{BeginsLine, IsServing, TellsFileFault}
+use Rattle.walker_cli.specs.Held.{tess_loaded, rules_loaded, made_rules}
+use Rattle.regular_maker.specs.Regular.{p_of, q_of}
+use Rattle.regular_maker.specs.Automaton.{regular_automaton}
+use Rattle.walker_cli.specs.Due.{IsDue, ServesSome, IsFileFault, IsStoreFault, type_told, check_accepted, by_task}
+use Rattle.walker_cli.specs.Outcome.{Writes, WritesNothing, IsOutside, ComesExactly, Gives, GivesAtOnce, TellsType, TellsAccepted, TellsLearnt}
+use Rattle.walker_cli.specs.Promise.{BeginsLine, IsServing, TellsFileFault, TellsStoreFault}
 use Rattle.walker_cli.specs.Ending.{SaysLine, said, unsaid, unwritten, EndsStream, answered, cut_off, over_limit, broken_off, out_of_memory, IsSayingOf, IsSessionOf, EndsRun, no_plan, with_line, with_stream}
 use Rattle.walker_cli.proofs.Classes.{answer_class, IsSpoken, spoken, not_unwritten, line_untold, IsDone}
 
@@ -52,6 +54,7 @@ module _ (run : Run) where
         inl (is ∙ ap status_of same ∙ other_is, subst (λ (a : Answer). Writes run (line_of a)) same wrote);
   }
   said_exactly (FileFault role) status line known (said is wrote) = unanswered status line (between is tt)
+  said_exactly StoreFault status line known (said is wrote) = unanswered status line (between is tt)
   said_exactly saying status line known (unsaid is kept) = unanswered status line (between is tt)
   said_exactly saying status line known (unwritten is part) = unanswered status line (between is tt)
 
@@ -74,8 +77,8 @@ module _ (run : Run) where
   -- the row of a status of answers other than Done
   pub exactly : EndsRun run → IsTrue run.files_tell → (status : Status) → class_of status ≡ OfLine → (IsDone status → ⊥) → ComesExactly run status
   exactly (no_plan is kept) told status line other = unanswered status line (between is tt)
-  exactly (with_line saying known counted formless says) told status line other = said_exactly saying status line (known told) says
-  exactly (with_stream kinds a k known asked ends) told status line other = record {
+  exactly (with_line saying known counted stored files formless says) told status line other = said_exactly saying status line (known told) says
+  exactly (with_stream kinds a k known accepted kept asked ends) told status line other = record {
     only = λ same. absurd (other (stream_class _ ends status same line));
     always = λ answer due is. absurd ((known told).alone answer due);
   }
@@ -87,14 +90,14 @@ module _ (run : Run) where
   -- the row of Done
   pub done_row : EndsRun run → IsTrue run.files_tell → ServesSome (call_of run) ⊎ ComesExactly run Done
   done_row (no_plan is kept) told = inr (unanswered Done refl (between is tt))
-  done_row (with_line saying known counted formless says) told = inr (said_exactly saying Done refl (known told) says)
-  done_row (with_stream kinds a k known asked ends) told = inl ((serving kinds a k known asked).serves told)
+  done_row (with_line saying known counted stored files formless says) told = inr (said_exactly saying Done refl (known told) says)
+  done_row (with_stream kinds a k known accepted kept asked ends) told = inl ((serving kinds a k known asked).serves told)
 
   -- what an answer that is due gives
   given : EndsRun run → IsTrue run.files_tell → (answer : Answer) → IsDue (call_of run) answer → Gives run (status_of answer) (line_of answer)
   given (no_plan is kept) told answer due = inr (between is tt)
-  given (with_line saying known counted formless says) told answer due = (said_exactly saying (status_of answer) (answer_class answer) (known told) says).always answer due refl
-  given (with_stream kinds a k known asked ends) told answer due = absurd ((known told).alone answer due)
+  given (with_line saying known counted stored files formless says) told answer due = (said_exactly saying (status_of answer) (answer_class answer) (known told) says).always answer due refl
+  given (with_stream kinds a k known accepted kept asked ends) told answer due = absurd ((known told).alone answer due)
 
   -- the row of a type that is told
   pub type_row : EndsRun run → IsTrue run.files_tell → (line : List ℕ) → TellsType (call_of run) line → Gives run Done line
@@ -113,6 +116,16 @@ module _ (run : Run) where
       let same : line_of (Accepted states corners) ≡ line = sym (t.written ∙ append_assoc (codes "accepted " ++ decimal states ++ codes " ") (decimal corners) (codes "\n") ∙ append_assoc (codes "accepted " ++ decimal states) (codes " ") (decimal corners ++ codes "\n") ∙ append_assoc (codes "accepted ") (decimal states) (codes " " ++ (decimal corners ++ codes "\n"))) in
       subst (λ (l : List ℕ). Gives run Done l) same (given ends told (Accepted states corners) due)
 
+  -- the row of rules that are learnt
+  pub learnt_row : EndsRun run → IsTrue run.files_tell → (line : List ℕ) → TellsLearnt (call_of run) line → Gives run Done line
+  learnt_row ends told line t =
+      let a = regular_automaton (p_of t.kinds) (q_of t.kinds) in
+      let states = length a.states in
+      let corners = length a.corners in
+      let due : IsDue (call_of run) (Accepted states corners) = by_task (LearnRules t.tess t.out) (Accepted states corners) t.form (check_accepted t.kinds a (tess_loaded t.bytes t.kinds t.holds t.spelling t.valid) (made_rules t.regular t.infinite)) in
+      let same : line_of (Accepted states corners) ≡ line = sym (t.written ∙ append_assoc (codes "accepted " ++ decimal states ++ codes " ") (decimal corners) (codes "\n") ∙ append_assoc (codes "accepted " ++ decimal states) (codes " ") (decimal corners ++ codes "\n") ∙ append_assoc (codes "accepted ") (decimal states) (codes " " ++ (decimal corners ++ codes "\n"))) in
+      subst (λ (l : List ℕ). Gives run Done l) same (given ends told (Accepted states corners) due)
+
   -- words in no form
   at_once : (saying : Saying) → saying ≡ Due Usage → Says saying → GivesAtOnce run UsageStatus (line_of Usage)
   at_once saying usage (said is wrote) = inl (is ∙ ap saying_status usage, λ told. wrote told ∙ ap (λ (s : Saying). run.before.taken ++ saying_line s) usage)
@@ -121,20 +134,44 @@ module _ (run : Run) where
 
   pub no_form_row : EndsRun run → HaveNoForm run.words → GivesAtOnce run UsageStatus (line_of Usage)
   no_form_row (no_plan is kept) none = inr (inl is)
-  no_form_row (with_line saying known counted formless says) none = at_once saying (formless none) says
-  no_form_row (with_stream kinds a k known asked ends) none = absurd (asked (λ tess n rules form. none (RunSession tess n rules) form))
+  no_form_row (with_line saying known counted stored files formless says) none = at_once saying (formless none) says
+  no_form_row (with_stream kinds a k known accepted kept asked ends) none = absurd (asked (λ tess n rules form. none (RunSession tess n rules) form))
 
   -- a file that could not be read
   fault_said : (saying : Saying) → (IsTrue run.files_tell → IsSayingOf (call_of run) saying) → (IsFileFault saying → IsCounted) → Says saying → run.status ≡ FileFaultStatus → TellsFileFault run
   fault_said (Due answer) known counted (said is wrote) fault = let other : OfLine ≡ OfOutside = sym (answer_class answer) ∙ ap class_of (sym is ∙ fault) in absurd (cc other)
   fault_said (FileFault role) known counted (said is wrote) fault = record { role = role; fetches = λ told. (known told).may; counted = counted tt; written = wrote }
+  fault_said StoreFault known counted (said is wrote) fault = absurd (cc (is, fault))
   fault_said saying known counted (unsaid is kept) fault = absurd (cc (is, fault))
   fault_said saying known counted (unwritten is part) fault = absurd (cc (is, fault))
 
   pub fault_row : EndsRun run → run.status ≡ FileFaultStatus → TellsFileFault run
   fault_row (no_plan is kept) fault = absurd (cc (is, fault))
-  fault_row (with_line saying known counted formless says) fault = fault_said saying known counted says fault
-  fault_row (with_stream kinds a k known asked ends) fault = absurd (stream_fault _ ends fault)
+  fault_row (with_line saying known counted stored files formless says) fault = fault_said saying known counted says fault
+  fault_row (with_stream kinds a k known accepted kept asked ends) fault = absurd (stream_fault _ ends fault)
+
+  -- a file that could not be written
+  abbrev pub IsStoreCounted : Type 0
+  IsStoreCounted = Rose run.before.failed_stores run.after.failed_stores
+
+  store_said : (saying : Saying) → (IsTrue run.files_tell → IsSayingOf (call_of run) saying) → (IsStoreFault saying → IsStoreCounted) → Says saying → run.status ≡ StoreFaultStatus → TellsStoreFault run
+  store_said (Due answer) known counted (said is wrote) fault = let other : OfLine ≡ OfOutside = sym (answer_class answer) ∙ ap class_of (sym is ∙ fault) in absurd (cc other)
+  store_said (FileFault role) known counted (said is wrote) fault = absurd (cc (is, fault))
+  store_said StoreFault known counted (said is wrote) fault = record { stores = λ told. (known told).may; counted = counted tt; written = wrote }
+  store_said saying known counted (unsaid is kept) fault = absurd (cc (is, fault))
+  store_said saying known counted (unwritten is part) fault = absurd (cc (is, fault))
+
+  stream_stored : (answering : Answering) → Streams answering → run.status ≡ StoreFaultStatus → ⊥
+  stream_stored answering (answered is few stands) fault = absurd (cc (is, fault))
+  stream_stored answering (cut_off is stands) fault = absurd (cc (is, fault))
+  stream_stored answering (over_limit is more stands) fault = absurd (cc (is, fault))
+  stream_stored answering (broken_off is stands) fault = absurd (cc (is, fault))
+  stream_stored answering (out_of_memory is stands) fault = absurd (cc (is, fault))
+
+  pub store_row : EndsRun run → run.status ≡ StoreFaultStatus → TellsStoreFault run
+  store_row (no_plan is kept) fault = absurd (cc (is, fault))
+  store_row (with_line saying known counted stored files formless says) fault = store_said saying known stored says fault
+  store_row (with_stream kinds a k known accepted kept asked ends) fault = absurd (stream_stored _ ends fault)
 
   -- nothing is said with a status of the stream
   pub said_stream : (saying : Saying) → Says saying → class_of run.status ≡ OfStream → ⊥
@@ -145,8 +182,8 @@ module _ (run : Run) where
   -- the statuses of the stream come only where walkers are served
   pub serving_row : EndsRun run → class_of run.status ≡ OfStream → IsServing run
   serving_row (no_plan is kept) stream = let other : OfMemory ≡ OfStream = ap class_of (sym is) ∙ stream in absurd (cc other)
-  serving_row (with_line saying known counted formless says) stream = absurd (said_stream saying says stream)
-  serving_row (with_stream kinds a k known asked ends) stream = serving kinds a k known asked
+  serving_row (with_line saying known counted stored files formless says) stream = absurd (said_stream saying says stream)
+  serving_row (with_stream kinds a k known accepted kept asked ends) stream = serving kinds a k known asked
 
   -- want of memory
   pub silent : (saying : Saying) → Says saying → run.status ≡ Memory → WritesNothing run
@@ -156,16 +193,16 @@ module _ (run : Run) where
 
   pub memory_row : EndsRun run → run.status ≡ Memory → WritesNothing run ⊎ IsServing run
   memory_row (no_plan is kept) want = inl kept
-  memory_row (with_line saying known counted formless says) want = inl (silent saying says want)
-  memory_row (with_stream kinds a k known asked ends) want = inr (serving kinds a k known asked)
+  memory_row (with_line saying known counted stored files formless says) want = inl (silent saying says want)
+  memory_row (with_stream kinds a k known accepted kept asked ends) want = inr (serving kinds a k known asked)
 
   -- a write that failed
-  pub begun : (saying : Saying) → (IsTrue run.files_tell → IsSayingOf (call_of run) saying) → (IsFileFault saying → IsCounted) → Says saying → run.status ≡ WriteFault → BeginsLine run saying
-  begun saying known counted (said is wrote) broke = absurd (not_unwritten saying (sym is ∙ broke))
-  begun saying known counted (unsaid is kept) broke = absurd (cc (is, broke))
-  begun saying known counted (unwritten is part) broke = record { may = λ told. (known told).may; counted = counted; written = part }
+  pub begun : (saying : Saying) → (IsTrue run.files_tell → IsSayingOf (call_of run) saying) → (IsFileFault saying → IsCounted) → (IsStoreFault saying → IsStoreCounted) → Says saying → run.status ≡ WriteFault → BeginsLine run saying
+  begun saying known counted stored (said is wrote) broke = absurd (not_unwritten saying (sym is ∙ broke))
+  begun saying known counted stored (unsaid is kept) broke = absurd (cc (is, broke))
+  begun saying known counted stored (unwritten is part) broke = record { may = λ told. (known told).may; counted = counted; store_counted = stored; written = part }
 
   pub write_row : EndsRun run → run.status ≡ WriteFault → ((saying : Saying) × BeginsLine run saying) ⊎ IsServing run
   write_row (no_plan is kept) broke = absurd (cc (is, broke))
-  write_row (with_line saying known counted formless says) broke = inl (saying, begun saying known counted says broke)
-  write_row (with_stream kinds a k known asked ends) broke = inr (serving kinds a k known asked)
+  write_row (with_line saying known counted stored files formless says) broke = inl (saying, begun saying known counted stored says broke)
+  write_row (with_stream kinds a k known accepted kept asked ends) broke = inr (serving kinds a k known asked)

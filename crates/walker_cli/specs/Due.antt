@@ -3,25 +3,24 @@
 -- No fault of the outside and no want of memory comes between.
 -- Of a fault of the outside it is said which files may be fetched.
 -- Each form of the words has rows of its own.
-use Rattle.std.specs.Prelude.{ℕ, ◌<◌, ◌≤◌, List, length, Option}
+use Rattle.std.specs.Prelude.{ℕ, ◌<◌, ◌≤◌, List, length, Option, Some, None}
 use Rattle.tile_model.specs.declared.Letter.{Letter}
 use Rattle.tile_model.specs.Tessellations.{TileKind}
 use Rattle.tile_model.specs.Walks.{type_of}
 use Rattle.tile_model.specs.Validity.{IsValid}
 use Rattle.tree_model.specs.Automata.{TreeAutomaton}
-use Rattle.tree_model.specs.Conditions.{IsAccepted}
 use Rattle.tess_text.specs.Spelling.{IsSpelling}
-use Rattle.rules_file.specs.Spelling.{IsRulesFile}
 use Rattle.walker_cli.specs.declared.answer.Role.{Role}
 use Rattle.walker_cli.specs.declared.answer.Role.TheVariants.{Tess, Rules}
 use Rattle.walker_cli.specs.declared.answer.Saying.{Saying}
 use Rattle.walker_cli.specs.declared.answer.Saying.TheVariants.{Due as DueAnswer, FileFault}
+use Rattle.walker_cli.specs.declared.answer.Saying.TheVariants.{StoreFault}
 use Rattle.walker_cli.specs.declared.answer.Answer.{Answer}
 use Rattle.walker_cli.specs.declared.answer.Answer.TheVariants.{TypeTold, Accepted, Usage}
-use Rattle.walker_cli.specs.Tasks.{Task, TellType, CheckRules, RunSession, Ask, IsRunForm}
-use Rattle.walker_cli.specs.Tasks.{HaveNoForm}
+use Rattle.walker_cli.specs.Tasks.{Task, TellType, CheckRules, RunSession, LearnRules, Ask}
+use Rattle.walker_cli.specs.Tasks.{HaveNoForm, IsRunForm}
 use Rattle.walker_cli.specs.Runs.{Call}
-use Rattle.walker_cli.specs.Held.{Loaded, Refused, Holds, IsTess, IsRules, tess_limit, rules_limit}
+use Rattle.walker_cli.specs.Held.{Loaded, Refused, Holds, IsTess, IsMade, RulesOf, tess_limit}
 
 -- what each file holds, by its name
 abbrev pub Contents : Type 0
@@ -48,28 +47,30 @@ pub data TypeRow (contents : Contents) (tess : List ℕ) (k : ℕ) (walk : List 
       → k < length kinds
       → TypeRow contents tess k walk (TypeTold (type_of kinds (k, 0) walk))
 
--- the rows of the form `check`
-pub data CheckRow (contents : Contents) (tess rules : List ℕ) : Answer → Type 0 where
+-- the rows of the form `check`, whose rules a file holds, and of `learn`, where none is named and
+-- they are made
+pub data CheckRow (contents : Contents) (tess : List ℕ) (rules : Option (List ℕ)) :
+    Answer → Type 0 where
   -- the tessellation file is refused
   check_no_tess :
       (answer : Answer)
       → IsTess contents tess (Refused answer)
       → CheckRow contents tess rules answer
-  -- the rules file is refused
+  -- the rules file is refused, or no rules are made
   check_no_rules :
       (kinds : List TileKind) (answer : Answer)
       → IsTess contents tess (Loaded kinds)
-      → IsRules contents kinds rules (Refused answer)
+      → RulesOf contents kinds rules (Refused answer)
       → CheckRow contents tess rules answer
   -- the rules are accepted
   check_accepted :
       (kinds : List TileKind) (a : TreeAutomaton)
       → IsTess contents tess (Loaded kinds)
-      → IsRules contents kinds rules (Loaded a)
+      → RulesOf contents kinds rules (Loaded a)
       → CheckRow contents tess rules (Accepted (length a.states) (length a.corners))
 
 -- the rows of the form `run`, where no walkers are served
-pub data SessionRow (contents : Contents) (tess : List ℕ) (k : ℕ) (rules : List ℕ) :
+pub data SessionRow (contents : Contents) (tess : List ℕ) (k : ℕ) (rules : Option (List ℕ)) :
     Answer → Type 0 where
   -- the tessellation file is refused
   session_no_tess :
@@ -82,19 +83,20 @@ pub data SessionRow (contents : Contents) (tess : List ℕ) (k : ℕ) (rules : L
       → IsTess contents tess (Loaded kinds)
       → length kinds ≤ k
       → SessionRow contents tess k rules Usage
-  -- the rules file is refused
+  -- the rules file is refused, or no rules are made
   session_no_rules :
       (kinds : List TileKind) (answer : Answer)
       → IsTess contents tess (Loaded kinds)
       → k < length kinds
-      → IsRules contents kinds rules (Refused answer)
+      → RulesOf contents kinds rules (Refused answer)
       → SessionRow contents tess k rules answer
 
 -- the rows of a task
 abbrev pub Row : Contents → Task → Answer → Type 0
 Row contents (TellType tess k walk) = TypeRow contents tess k walk
-Row contents (CheckRules tess rules) = CheckRow contents tess rules
+Row contents (CheckRules tess rules) = CheckRow contents tess (Some rules)
 Row contents (RunSession tess k rules) = SessionRow contents tess k rules
+Row contents (LearnRules tess out) = CheckRow contents tess None
 
 pub data IsDue (call : Call) : Answer → Type 0 where
   -- the words are in no form
@@ -106,22 +108,21 @@ pub data IsDue (call : Call) : Answer → Type 0 where
       → Row call.contents task answer
       → IsDue call answer
 
--- The words are `run TESS K --rules RULES`, both files hold what they should within their limits,
--- the automaton meets the twelve conditions, and K is a kind of the tessellation.
+-- The words are `run TESS K`, the files hold what they should within their limits, and K is a kind
+-- of the tessellation.
+-- The automaton is the one that the rules file spells, and meets the twelve conditions; or no rules
+-- file is named, and it is the one that is made for the tessellation.
 -- Then the commands of the input are answered.
 pub record Serves (call : Call) (kinds : List TileKind) (automaton : TreeAutomaton) (k : ℕ) :
     Type 0 where
   pub tess : List ℕ
-  pub rules : List ℕ
+  pub rules : Option (List ℕ)
   pub tess_bytes : List ℕ
-  pub rules_bytes : List ℕ
   pub form : IsRunForm call.words tess k rules
   pub holds_tess : Holds call.contents tess tess_limit tess_bytes
-  pub holds_rules : Holds call.contents rules rules_limit rules_bytes
   pub tess_spelling : IsSpelling tess_bytes kinds
   pub valid : IsValid kinds
-  pub rules_spelling : IsRulesFile rules_bytes automaton
-  pub accepted : IsAccepted kinds automaton
+  pub loaded : RulesOf call.contents kinds rules (Loaded automaton)
   pub is_kind : k < length kinds
 
 -- the call serves walkers, over some rules and a kind
@@ -137,8 +138,10 @@ FetchesFor contents task Tess = Unit {0}
 FetchesFor contents (TellType tess k walk) Rules = ⊥
 FetchesFor contents (CheckRules tess rules) Rules =
     (kinds : List TileKind) × IsTess contents tess (Loaded kinds)
-FetchesFor contents (RunSession tess k rules) Rules =
+FetchesFor contents (RunSession tess k (Some rules)) Rules =
     (kinds : List TileKind) × IsTess contents tess (Loaded kinds) × (k < length kinds)
+FetchesFor contents (RunSession tess k None) Rules = ⊥
+FetchesFor contents (LearnRules tess out) Rules = ⊥
 
 -- the call asks for a task that fetches the file of this role
 pub record Fetches (call : Call) (role : Role) : Type 0 where
@@ -146,12 +149,43 @@ pub record Fetches (call : Call) (role : Role) : Type 0 where
   pub ask : Ask call.words task
   pub reached : FetchesFor call.contents task role
 
--- what a call may say: the answer that is due, or that a file which it fetches could not be read
+-- These rules are made for the tessellation that the file holds.
+pub record Makes
+    (contents : Contents) (tess : List ℕ) (kinds : List TileKind) (automaton : TreeAutomaton) :
+    Type 0 where
+  pub loaded : IsTess contents tess (Loaded kinds)
+  pub made : IsMade kinds (Loaded automaton)
+
+-- where a task stores rules
+abbrev pub StoresFor : Contents → Task → Type 0
+StoresFor contents (TellType tess k walk) = ⊥
+StoresFor contents (CheckRules tess rules) = ⊥
+StoresFor contents (RunSession tess k rules) = ⊥
+StoresFor contents (LearnRules tess None) = ⊥
+StoresFor contents (LearnRules tess (Some out)) =
+    (kinds : List TileKind) × (automaton : TreeAutomaton) × Makes contents tess kinds automaton
+
+-- the call asks for a task that stores rules
+pub record Stores (call : Call) : Type 0 where
+  pub task : Task
+  pub ask : Ask call.words task
+  pub reached : StoresFor call.contents task
+
+-- What a call may say: the answer that is due, that a file which it fetches could not be read, or
+-- that the file which it stores could not be written.
 abbrev pub MaySay : Call → Saying → Type 0
 MaySay call (DueAnswer answer) = IsDue call answer
 MaySay call (FileFault role) = Fetches call role
+MaySay call StoreFault = Stores call
 
 -- it is said that a file could not be read
 abbrev pub IsFileFault : Saying → Type 0
 IsFileFault (DueAnswer answer) = ⊥
 IsFileFault (FileFault role) = Unit {0}
+IsFileFault StoreFault = ⊥
+
+-- it is said that a file could not be written
+abbrev pub IsStoreFault : Saying → Type 0
+IsStoreFault (DueAnswer answer) = ⊥
+IsStoreFault (FileFault role) = ⊥
+IsStoreFault StoreFault = Unit {0}

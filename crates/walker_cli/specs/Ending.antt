@@ -1,9 +1,12 @@
 -- How a run ends, whatever its files, its source and its sink tell.
-use Rattle.std.specs.Prelude.{◌≡◌, ℕ, ◌<◌, ◌≤◌, Bool, IsTrue, List, [], ◌++◌, length}
+use Rattle.std.specs.Prelude.{◌≡◌, ◌⊎◌, ℕ, ◌<◌, ◌≤◌, Bool, IsTrue, List, [], ◌++◌, length}
+use Rattle.std.specs.Prelude.{Some}
 use Rattle.tile_model.specs.Tessellations.{TileKind}
 use Rattle.tree_model.specs.Automata.{TreeAutomaton}
+use Rattle.tree_model.specs.Conditions.{IsAccepted}
 use Rattle.line_server.specs.Answering.{over_walks}
 use Rattle.way_io.specs.Counts.{Rose}
+use Rattle.way_io.specs.Contents.{KeepsAll}
 use Rattle.way_io.specs.Pieces.{AppendsPrefix}
 use Rattle.line_server.specs.Lines.{most_of_stream}
 use Rattle.line_server.specs.Answering.{Answering}
@@ -15,11 +18,11 @@ use Rattle.walker_cli.specs.declared.answer.Answer.{Answer}
 use Rattle.walker_cli.specs.declared.answer.Answer.TheVariants.{Usage}
 use Rattle.walker_cli.specs.declared.answer.Saying.{Saying}
 use Rattle.walker_cli.specs.declared.answer.Saying.TheVariants.{Due}
-use Rattle.walker_cli.specs.Tasks.{HaveNoForm, AreNotOfRun}
+use Rattle.walker_cli.specs.Tasks.{HaveNoForm, AreNotOfRun, IsLearnForm}
 use Rattle.walker_cli.specs.Runs.{Call, Run, call_of}
-use Rattle.walker_cli.specs.Due.{IsDue, Serves, MaySay, IsFileFault}
+use Rattle.walker_cli.specs.Due.{IsDue, Serves, Makes, MaySay, IsFileFault, IsStoreFault}
 use Rattle.walker_cli.specs.StatusLines.{saying_status, saying_line}
-use Rattle.walker_cli.specs.Loading.{IsSaidAs}
+use Rattle.walker_cli.specs.Loading.{IsSaidAs, MayStore, HasStored}
 use Rattle.walker_cli.specs.Serving.{OutputStands, LinesStand, RefusalStands, BeginningStands}
 
 -- The line of what is said was appended, or a beginning of it, or nothing for want of memory.
@@ -83,6 +86,17 @@ pub record IsSessionOf (call : Call) (kinds : List TileKind) (a : TreeAutomaton)
       → Serves call kinds' a' k' → (kinds ≡ kinds') × (a ≡ a') × (k ≡ k')
   pub alone : (answer : Answer) → IsDue call answer → ⊥
 
+-- What the files hold where this is said: all as before, unless rules were stored.
+-- Where the words name a file for rules that are made, an answer is said only after they stand in it.
+pub record KeepsFiles (run : Run) (saying : Saying) : Type 0 where
+  pub kept :
+      KeepsAll run.before.contents run.after.contents ⊎ MayStore (saying_status saying)
+  pub stored :
+      (tess out : List ℕ) (kinds : List TileKind) (a : TreeAutomaton)
+      → IsLearnForm run.words tess (Some out)
+      → Makes run.before.contents tess kinds a
+      → HasStored run.after.contents out a saying
+
 -- A run ends for want of memory, with a line, or with the commands of the input.
 pub data EndsRun (run : Run) : Type 0 where
   no_plan :
@@ -93,12 +107,16 @@ pub data EndsRun (run : Run) : Type 0 where
       (saying : Saying)
       → (IsTrue run.files_tell → IsSayingOf (call_of run) saying)
       → (IsFileFault saying → Rose run.before.failed_fetches run.after.failed_fetches)
+      → (IsStoreFault saying → Rose run.before.failed_stores run.after.failed_stores)
+      → (IsTrue run.files_tell → KeepsFiles run saying)
       → (HaveNoForm run.words → saying ≡ Due Usage)
       → SaysLine run.sink_tells saying run.before.taken run.after.taken run.status
       → EndsRun run
   with_stream :
       (kinds : List TileKind) (a : TreeAutomaton) (k : ℕ)
       → (IsTrue run.files_tell → IsSessionOf (call_of run) kinds a k)
+      → IsAccepted kinds a
+      → (IsTrue run.files_tell → KeepsAll run.before.contents run.after.contents)
       → ¬ AreNotOfRun run.words
       → EndsStream run.source_tells run.sink_tells (over_walks kinds a k)
       run.before.left run.after.left run.before.taken run.after.taken run.status

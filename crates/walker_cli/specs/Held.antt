@@ -1,6 +1,6 @@
 -- What the files hold, where they tell it: a tessellation or rules, or the answer that refuses
 -- them.
-use Rattle.std.specs.Prelude.{◌≡◌, ℕ, ◌<◌, ◌≤◌, List, length, Option, Some}
+use Rattle.std.specs.Prelude.{◌≡◌, ℕ, ◌<◌, ◌≤◌, List, length, Option, Some, None}
 use Rattle.tile_model.specs.Tessellations.{TileKind}
 use Rattle.tile_model.specs.Validity.{IsValid}
 use Rattle.tile_model.specs.declared.fault.KindFault.{KindFault}
@@ -17,6 +17,9 @@ use Rattle.walker_cli.specs.declared.answer.Role.TheVariants.{Tess, Rules}
 use Rattle.walker_cli.specs.declared.answer.Answer.{Answer}
 use Rattle.walker_cli.specs.declared.answer.Answer.TheVariants.{FileTooLong, TessLine, TessKinds}
 use Rattle.walker_cli.specs.declared.answer.Answer.TheVariants.{RulesSyntax, RulesShape, Broken}
+use Rattle.walker_cli.specs.declared.answer.Answer.TheVariants.{Usage, Spherical}
+use Rattle.regular_maker.specs.Regular.{IsRegular, IsInfinite, IsSpherical, p_of, q_of}
+use Rattle.regular_maker.specs.Automaton.{regular_automaton}
 
 -- the greatest number of bytes of a tessellation file and of a rules file
 abbrev pub tess_limit : ℕ
@@ -109,3 +112,24 @@ pub data IsRules (contents : List ℕ → Option (List ℕ)) (kinds : List TileK
       → IsRulesFile bytes a
       → IsAccepted kinds a
       → IsRules contents kinds file (Loaded a)
+
+-- what the making of rules comes to, for the kinds of a tessellation
+pub data IsMade (kinds : List TileKind) : Outcome TreeAutomaton → Type 0 where
+  -- it is not regular: no rules are made for it yet
+  made_none : ¬ IsRegular kinds → IsMade kinds (Refused Usage)
+  -- it is regular, and lies on the sphere
+  made_spherical :
+      IsRegular kinds
+      → IsSpherical (p_of kinds) (q_of kinds)
+      → IsMade kinds (Refused (Spherical (p_of kinds) (q_of kinds)))
+  -- it is regular, and has infinitely many tiles
+  made_rules :
+      IsRegular kinds
+      → IsInfinite (p_of kinds) (q_of kinds)
+      → IsMade kinds (Loaded (regular_automaton (p_of kinds) (q_of kinds)))
+
+-- what the rules come to that a file holds, or that are made where none is named
+abbrev pub RulesOf :
+    (List ℕ → Option (List ℕ)) → List TileKind → Option (List ℕ) → Outcome TreeAutomaton → Type 0
+RulesOf contents kinds (Some file) outcome = IsRules contents kinds file outcome
+RulesOf contents kinds None outcome = IsMade kinds outcome

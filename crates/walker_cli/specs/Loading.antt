@@ -1,26 +1,38 @@
 -- What the steps of a call come to, on the way to its plan.
-use Rattle.std.specs.Prelude.{◌≡◌, ℕ, ◌<◌, List, length, Result, Ok, Err, IsErr}
+use Rattle.std.specs.Prelude.{◌≡◌, ◌⊎◌, ℕ, ◌<◌, List, length, Result, Ok, Err, IsErr, MatchResult}
+use Rattle.std.specs.Prelude.{Option, Some, None}
 use Rattle.std.specs.declared.alloc.AllocError.{AllocError}
 use Rattle.tile_model.specs.Tessellations.{TileKind}
 use Rattle.tree_model.specs.Automata.{TreeAutomaton}
+use Rattle.tree_model.specs.Conditions.{IsAccepted}
+use Rattle.structure_check.specs.Rules.{TreeRules}
+use Rattle.rules_file.specs.Spelling.{rules_text}
+use Rattle.way_io.specs.Contents.{KeepsAll}
+use Rattle.walker_cli.specs.declared.status.Status.{Status}
+use Rattle.walker_cli.specs.declared.status.Status.TheVariants.{Done, WriteFault}
+use Rattle.walker_cli.specs.declared.status.Status.TheVariants.{StoreFault as StoreFaultStatus}
+use Rattle.walker_cli.specs.declared.status.Status.TheVariants.{Memory as MemoryStatus}
 use Rattle.walker_cli.specs.declared.answer.Answer.{Answer}
 use Rattle.walker_cli.specs.declared.answer.Saying.{Saying}
-use Rattle.walker_cli.specs.declared.answer.Saying.TheVariants.{Due, FileFault}
+use Rattle.walker_cli.specs.declared.answer.Saying.TheVariants.{Due, FileFault, StoreFault}
 use Rattle.walker_cli.specs.declared.decide.Plan.{Plan}
 use Rattle.walker_cli.specs.declared.decide.Plan.TheVariants.{Say, Serve}
 use Rattle.walker_cli.specs.declared.load.Refusal.{Refusal}
 use Rattle.walker_cli.specs.declared.load.Refusal.TheVariants.{Said, Memory}
 use Rattle.walker_cli.specs.Runs.{Call}
-use Rattle.walker_cli.specs.Tasks.{Task, TellType, CheckRules, RunSession}
-use Rattle.walker_cli.specs.Held.{Loaded, IsTess, IsRules}
-use Rattle.walker_cli.specs.Due.{Contents, Row, FetchesFor, Serves, MaySay, IsFileFault}
+use Rattle.walker_cli.specs.Tasks.{Task, TellType, CheckRules, RunSession, LearnRules}
+use Rattle.walker_cli.specs.Held.{Outcome, Loaded, Refused, IsTess, RulesOf}
+use Rattle.walker_cli.specs.StatusLines.{saying_status}
+use Rattle.walker_cli.specs.Due.{Contents, Row, FetchesFor, StoresFor, Serves, Makes, MaySay}
+use Rattle.walker_cli.specs.Due.{IsFileFault, IsStoreFault}
 
--- this answer is said, unless it is said that a file could not be read
+-- this answer is said, unless it is said that a file could not be read or written
 abbrev pub IsSaidAs : Answer → Saying → Type 0
 IsSaidAs answer (Due other) = other ≡ answer
 IsSaidAs answer (FileFault role) = Unit {0}
+IsSaidAs answer StoreFault = Unit {0}
 
--- the plan is to say this answer, unless a file could not be read
+-- the plan is to say this answer, unless a file could not be read or written
 abbrev pub SaysAs : Answer → Plan → Type 0
 SaysAs answer (Say saying) = IsSaidAs answer saying
 SaysAs answer (Serve rules k) = ⊥
@@ -36,15 +48,21 @@ abbrev pub SaysSome : Plan → Type 0
 SaysSome (Say saying) = Unit {0}
 SaysSome (Serve rules k) = ⊥
 
--- the plan serves walkers in the tree of a kind, if it serves any
-abbrev pub HasKind : Plan → Type 0
-HasKind (Say saying) = Unit {0}
-HasKind (Serve rules k) = k < length rules.kinds
+-- if the plan serves walkers, it does so in the tree of a kind, over rules that meet the twelve
+-- conditions
+abbrev pub IsReady : Plan → Type 0
+IsReady (Say saying) = Unit {0}
+IsReady (Serve rules k) = (k < length rules.kinds) × IsAccepted rules.kinds rules.automaton
 
 -- the plan is to tell of a file that could not be read
 abbrev pub TellsFault : Plan → Type 0
 TellsFault (Say saying) = IsFileFault saying
 TellsFault (Serve rules k) = ⊥
+
+-- the plan is to tell of a file that could not be written
+abbrev pub TellsStoreFault : Plan → Type 0
+TellsStoreFault (Say saying) = IsStoreFault saying
+TellsStoreFault (Serve rules k) = ⊥
 
 -- what the plan says may be said, and over what it serves the call serves
 abbrev pub IsPlanDue : Call → Plan → Type 0
@@ -55,9 +73,10 @@ IsPlanDue call (Serve rules k) = Serves call rules.kinds rules.automaton k
 abbrev pub ServesFor : Contents → Task → List TileKind → TreeAutomaton → ℕ → Type 0
 ServesFor contents (TellType tess k walk) kinds a kind = ⊥
 ServesFor contents (CheckRules tess rules) kinds a kind = ⊥
+ServesFor contents (LearnRules tess out) kinds a kind = ⊥
 ServesFor contents (RunSession tess k rules) kinds a kind =
     IsTess contents tess (Loaded kinds)
-    × IsRules contents kinds rules (Loaded a)
+    × RulesOf contents kinds rules (Loaded a)
     × (k < length kinds)
     × (k ≡ kind)
 
@@ -65,6 +84,7 @@ ServesFor contents (RunSession tess k rules) kinds a kind =
 abbrev pub FitsTask : Contents → Task → Plan → Type 0
 FitsTask contents task (Say (Due answer)) = Row contents task answer
 FitsTask contents task (Say (FileFault role)) = FetchesFor contents task role
+FitsTask contents task (Say StoreFault) = StoresFor contents task
 FitsTask contents task (Serve rules k) = ServesFor contents task rules.kinds rules.automaton k
 
 -- this holds of the plan that the steps came to, if they came to one
@@ -80,6 +100,42 @@ IsRefusedAs answer refusal = IfPlan (Err refusal) (SaysAs answer)
 -- the refusal tells of the outside or of memory
 abbrev pub IsOfOutside : Refusal → Type 0
 IsOfOutside refusal = IfPlan (Err refusal) TellsFault
+
+-- what rules come to, if nothing of the outside and no want of memory comes between
+abbrev pub RulesCome : Outcome TreeAutomaton → Result TreeRules Refusal → Type 0
+RulesCome (Loaded a) r = MatchResult r (λ rules. rules.automaton ≡ a) IsOfOutside
+RulesCome (Refused answer) r = MatchResult r (λ _. ⊥) (IsRefusedAs answer)
+
+-- the task names this file to store rules in
+abbrev pub StoresAs : Task → List ℕ → Type 0
+StoresAs (TellType tess k walk) file = ⊥
+StoresAs (CheckRules tess rules) file = ⊥
+StoresAs (RunSession tess k rules) file = ⊥
+StoresAs (LearnRules tess out) file = out ≡ Some file
+
+-- the statuses with which a file may have been stored
+abbrev pub MayStore : Status → Type 0
+MayStore Done = Unit {0}
+MayStore WriteFault = Unit {0}
+MayStore StoreFaultStatus = Unit {0}
+MayStore MemoryStatus = Unit {0}
+MayStore _ = ⊥
+
+-- all files are as before, unless the plan is to say something with which a file may be stored
+abbrev pub KeepsByPlan : Contents → Contents → Plan → Type 0
+KeepsByPlan old new (Say saying) = KeepsAll old new ⊎ MayStore (saying_status saying)
+KeepsByPlan old new (Serve rules k) = KeepsAll old new
+
+-- where an answer is said, the file holds the canonical text of the automaton
+abbrev pub HasStored : Contents → List ℕ → TreeAutomaton → Saying → Type 0
+HasStored contents out a (Due answer) = contents out ≡ Some (rules_text a)
+HasStored contents out a (FileFault role) = Unit {0}
+HasStored contents out a StoreFault = Unit {0}
+
+-- the same of what the plan says
+abbrev pub PlansStored : Contents → List ℕ → TreeAutomaton → Plan → Type 0
+PlansStored contents out a (Say saying) = HasStored contents out a saying
+PlansStored contents out a (Serve rules k) = Unit {0}
 
 -- the plan that the steps came to, if they came to one
 abbrev pub Settles : Result Plan Refusal → Result Plan AllocError → Type 0

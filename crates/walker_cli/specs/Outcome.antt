@@ -1,5 +1,6 @@
 -- How the status and what was appended answer to the table.
 use Rattle.std.specs.Prelude.{◌≡◌, ◌⊎◌, ℕ, ◌<◌, IsTrue, List, [], ◌∷◌, ◌++◌, length, codes, decimal}
+use Rattle.std.specs.Prelude.{Option}
 use Rattle.way_io.specs.Pieces.{AppendsPrefix}
 use Rattle.walker_cli.specs.declared.status.Status.{Status}
 use Rattle.walker_cli.specs.declared.status.Status.TheVariants.{Memory, WriteFault}
@@ -14,7 +15,9 @@ use Rattle.tree_model.specs.Automata.{TreeAutomaton}
 use Rattle.tree_model.specs.Conditions.{IsAccepted}
 use Rattle.tess_text.specs.Spelling.{IsSpelling}
 use Rattle.rules_file.specs.Spelling.{IsRulesFile}
-use Rattle.walker_cli.specs.Tasks.{IsKindForm}
+use Rattle.regular_maker.specs.Regular.{IsRegular, IsInfinite, p_of, q_of}
+use Rattle.regular_maker.specs.Automaton.{regular_automaton}
+use Rattle.walker_cli.specs.Tasks.{IsKindForm, IsLearnForm}
 use Rattle.walker_cli.specs.Runs.{Call, Run, call_of}
 use Rattle.walker_cli.specs.Held.{Holds, tess_limit, rules_limit}
 use Rattle.walker_cli.specs.Due.{IsDue}
@@ -37,7 +40,7 @@ ComesBetween OfOutside = Unit {0}
 ComesBetween OfStream = ⊥
 ComesBetween OfMemory = Unit {0}
 
--- the statuses that tell of the outside or of memory: FileFault, WriteFault and Memory
+-- the statuses that tell of the outside or of memory: FileFault, StoreFault, WriteFault and Memory
 abbrev pub IsOutside : Status → Type 0
 IsOutside status = ComesBetween (class_of status)
 
@@ -104,3 +107,23 @@ pub record TellsAccepted (call : Call) (line : List ℕ) : Type 0 where
   pub written :
       line ≡ codes "accepted " ++ decimal (length automaton.states)
       ++ codes " " ++ decimal (length automaton.corners) ++ codes "\n"
+
+-- The words are of the form `learn`, and the file holds a spelling of a regular tessellation with
+-- infinitely many tiles, within its limit.
+-- The line tells how many states and corner types its rules have.
+pub record TellsLearnt (call : Call) (line : List ℕ) : Type 0 where
+  pub tess : List ℕ
+  pub out : Option (List ℕ)
+  pub bytes : List ℕ
+  pub kinds : List TileKind
+  pub form : IsLearnForm call.words tess out
+  pub holds : Holds call.contents tess tess_limit bytes
+  pub spelling : IsSpelling bytes kinds
+  pub valid : IsValid kinds
+  pub regular : IsRegular kinds
+  pub infinite : IsInfinite (p_of kinds) (q_of kinds)
+  pub written :
+      line ≡ codes "accepted "
+      ++ decimal (length (regular_automaton (p_of kinds) (q_of kinds)).states)
+      ++ codes " "
+      ++ decimal (length (regular_automaton (p_of kinds) (q_of kinds)).corners) ++ codes "\n"

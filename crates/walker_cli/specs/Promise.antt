@@ -1,7 +1,8 @@
 -- What a run of the program comes to, in one place.
-use Rattle.std.specs.Prelude.{◌≡◌, ◌⊎◌, ℕ, ◌<◌, ◌≤◌, IsTrue, List, [], length}
+use Rattle.std.specs.Prelude.{◌≡◌, ◌⊎◌, ℕ, ◌<◌, ◌≤◌, IsTrue, List, [], length, Some}
 use Rattle.tile_model.specs.Tessellations.{TileKind}
 use Rattle.tree_model.specs.Automata.{TreeAutomaton}
+use Rattle.rules_file.specs.Spelling.{rules_text}
 use Rattle.line_server.specs.Answering.{over_tree}
 use Rattle.line_server.specs.Answering.{over_walks}
 use Rattle.way_io.specs.Counts.{Rose}
@@ -12,17 +13,20 @@ use Rattle.walker_cli.specs.declared.status.Status.{Status}
 use Rattle.walker_cli.specs.declared.status.Status.TheVariants.{Done, Usage, FileFault, FileTooLong}
 use Rattle.walker_cli.specs.declared.status.Status.TheVariants.{TessRefused, RulesText, NotAccepted}
 use Rattle.walker_cli.specs.declared.status.Status.TheVariants.{Memory, ReadFault, WriteFault}
-use Rattle.walker_cli.specs.declared.status.Status.TheVariants.{InputTooLong}
+use Rattle.walker_cli.specs.declared.status.Status.TheVariants.{InputTooLong, Spherical, StoreFault}
 use Rattle.walker_cli.specs.declared.answer.Role.{Role}
 use Rattle.walker_cli.specs.declared.answer.Saying.{Saying}
 use Rattle.walker_cli.specs.declared.answer.Saying.TheVariants.{FileFault as FileFaultOf}
 use Rattle.walker_cli.specs.declared.answer.Answer.TheVariants.{Usage as UsageAnswer}
-use Rattle.walker_cli.specs.Tasks.{HaveNoForm, AreNotOfRun}
+use Rattle.walker_cli.specs.Tasks.{HaveNoForm, AreNotOfRun, IsLearnForm, IsOut}
 use Rattle.walker_cli.specs.Runs.{Run, call_of}
-use Rattle.walker_cli.specs.StatusLines.{line_of, fault_line, saying_line}
-use Rattle.walker_cli.specs.Due.{Serves, ServesSome, Fetches, MaySay, IsFileFault}
+use Rattle.walker_cli.specs.StatusLines.{line_of, fault_line, store_fault_line, saying_line}
+use Rattle.walker_cli.specs.Due.{Serves, ServesSome, Fetches, Stores, Makes, MaySay}
+use Rattle.walker_cli.specs.Due.{IsFileFault, IsStoreFault}
+use Rattle.walker_cli.specs.Loading.{MayStore}
 use Rattle.walker_cli.specs.Outcome.{Writes, WritesBeginning, WritesNothing, IsOutside, Gives}
 use Rattle.walker_cli.specs.Outcome.{GivesAtOnce, ComesExactly, TellsType, TellsAccepted}
+use Rattle.walker_cli.specs.Outcome.{TellsLearnt}
 use Rattle.walker_cli.specs.Serving.{OutputStands, LinesStand, RefusalStands, BeginningStands}
 
 -- the statuses that tell of the outside or of memory, where the input is read
@@ -30,10 +34,13 @@ abbrev pub IsOutsideOfStream : Status → Type 0
 IsOutsideOfStream status = IsOutside status ⊎ (status ≡ ReadFault)
 
 -- The beginning was written of a line that the run may say.
--- That a file could not be read is begun only where a fetch failed.
+-- That a file could not be read is begun only where a fetch failed, and that one could not be
+-- written only where a store failed.
 pub record BeginsLine (run : Run) (saying : Saying) : Type 0 where
   pub may : IsTrue run.files_tell → MaySay (call_of run) saying
   pub counted : IsFileFault saying → Rose run.before.failed_fetches run.after.failed_fetches
+  pub store_counted :
+      IsStoreFault saying → Rose run.before.failed_stores run.after.failed_stores
   pub written : WritesBeginning run (saying_line saying)
 
 -- What becomes of the commands of the input, in a run that serves walkers over this automaton, in
@@ -97,6 +104,12 @@ pub record TellsFileFault (run : Run) : Type 0 where
   pub counted : Rose run.before.failed_fetches run.after.failed_fetches
   pub written : Writes run (fault_line role)
 
+-- The file that the call stores could not be written, which was counted, and the line tells it.
+pub record TellsStoreFault (run : Run) : Type 0 where
+  pub stores : IsTrue run.files_tell → Stores (call_of run)
+  pub counted : Rose run.before.failed_stores run.after.failed_stores
+  pub written : Writes run store_fault_line
+
 -- A read failed, which was counted, while walkers were served.
 pub record TellsReadFault (run : Run) : Type 0 where
   pub serving : IsServing run
@@ -109,13 +122,16 @@ pub record TellsWriteFault (run : Run) : Type 0 where
 
 -- The table of answers is followed: where each status comes, and with which line.
 pub record FollowsTable (run : Run) : Type 0 where
-  -- What two forms write, where the files hold what it needs.
+  -- What three forms write, where the files hold what it needs.
   pub kind :
       IsTrue run.files_tell → (line : List ℕ)
       → TellsType (call_of run) line → Gives run Done line
   pub check :
       IsTrue run.files_tell → (line : List ℕ)
       → TellsAccepted (call_of run) line → Gives run Done line
+  pub learn :
+      IsTrue run.files_tell → (line : List ℕ)
+      → TellsLearnt (call_of run) line → Gives run Done line
   -- The statuses of answers. Done comes so unless the run serves walkers.
   pub done : IsTrue run.files_tell → ServesSome (call_of run) ⊎ ComesExactly run Done
   pub usage : IsTrue run.files_tell → ComesExactly run Usage
@@ -123,23 +139,57 @@ pub record FollowsTable (run : Run) : Type 0 where
   pub tess_refused : IsTrue run.files_tell → ComesExactly run TessRefused
   pub rules_text : IsTrue run.files_tell → ComesExactly run RulesText
   pub not_accepted : IsTrue run.files_tell → ComesExactly run NotAccepted
+  pub spherical : IsTrue run.files_tell → ComesExactly run Spherical
   -- The statuses that only may come.
   pub file_fault : run.status ≡ FileFault → TellsFileFault run
+  pub store_fault : run.status ≡ StoreFault → TellsStoreFault run
   pub read_fault : run.status ≡ ReadFault → TellsReadFault run
   pub write_fault : run.status ≡ WriteFault → TellsWriteFault run
   pub input_too_long : run.status ≡ InputTooLong → IsServing run
   pub memory : run.status ≡ Memory → WritesNothing run ⊎ IsServing run
 
--- what stays as it was, at each status
+-- The beginning was written of a line which tells that a file could not be read or written.
+pub record BeginsFault (run : Run) : Type 0 where
+  pub saying : Saying
+  pub fault : IsFileFault saying ⊎ IsStoreFault saying
+  pub begins : BeginsLine run saying
+
+-- The file `out` holds exactly the canonical text of the automaton: at Done, and where the line could
+-- not be written, unless that line tells of a fault.
+pub record StoresRules (run : Run) (out : List ℕ) (automaton : TreeAutomaton) : Type 0 where
+  pub at_done : run.status ≡ Done → run.after.contents out ≡ Some (rules_text automaton)
+  pub at_write_fault :
+      run.status ≡ WriteFault
+      → (run.after.contents out ≡ Some (rules_text automaton)) ⊎ BeginsFault run
+
+-- what stays as it was, at each status, and what the one file holds that may be stored
 pub record KeepsOutside (run : Run) : Type 0 where
-  pub contents : IsTrue run.files_tell → KeepsAll run.before.contents run.after.contents
-  pub stores : run.after.failed_stores ≡ run.before.failed_stores
+  -- Every file but the one behind `--out` keeps its content.
+  pub others :
+      IsTrue run.files_tell → (file : List ℕ)
+      → (IsOut run.words file → ⊥) → run.after.contents file ≡ run.before.contents file
+  -- That one too, unless the status is Done, WriteFault, StoreFault or Memory.
+  pub contents :
+      IsTrue run.files_tell → (MayStore run.status → ⊥)
+      → KeepsAll run.before.contents run.after.contents
+  -- The rules that are made were stored before their line was written.
+  pub stored :
+      IsTrue run.files_tell
+      → (tess out : List ℕ) (kinds : List TileKind) (automaton : TreeAutomaton)
+      → IsLearnForm run.words tess (Some out)
+      → Makes run.before.contents tess kinds automaton
+      → StoresRules run out automaton
+  -- No store fails where no file is named behind `--out`.
+  pub stores :
+      ((file : List ℕ) → IsOut run.words file → ⊥)
+      → run.after.failed_stores ≡ run.before.failed_stores
   pub taken : IsTrue run.sink_tells → TakesMore run.before.taken run.after.taken
   pub left : IsTrue run.source_tells → GivesInOrder run.before.left run.after.left
 
 -- What is promised of each run.
 pub record KeepsPromise (run : Run) : Type 0 where
-  -- With rules from a file this holds of each automaton that the file spells.
+  -- With rules from a file this holds of each automaton that the file spells, and without one of the
+  -- automaton that is made.
   pub stream :
       IsTrue run.files_tell → IsTrue run.source_tells
       → (kinds : List TileKind) (a : TreeAutomaton) (k : ℕ)

@@ -13,12 +13,15 @@ use Rattle.walker_cli.specs.declared.status.Status.TheVariants.{FileTooLong as F
 use Rattle.walker_cli.specs.declared.status.Status.TheVariants.{TessRefused, RulesText, NotAccepted}
 use Rattle.walker_cli.specs.declared.status.Status.TheVariants.{Memory, ReadFault, WriteFault}
 use Rattle.walker_cli.specs.declared.status.Status.TheVariants.{InputTooLong}
+use Rattle.walker_cli.specs.declared.status.Status.TheVariants.{Spherical as SphericalStatus}
+use Rattle.walker_cli.specs.declared.status.Status.TheVariants.{StoreFault as StoreFaultStatus}
 use Rattle.walker_cli.specs.declared.answer.Role.{Role}
 use Rattle.walker_cli.specs.declared.answer.Role.TheVariants.{Tess, Rules}
 use Rattle.walker_cli.specs.declared.answer.Answer.{Answer}
 use Rattle.walker_cli.specs.declared.answer.Saying.{Saying}
-use Rattle.walker_cli.specs.declared.answer.Saying.TheVariants.{Due, FileFault}
+use Rattle.walker_cli.specs.declared.answer.Saying.TheVariants.{Due, FileFault, StoreFault}
 use Rattle.walker_cli.specs.declared.answer.Answer.TheVariants.{TypeTold, Accepted, Usage}
+use Rattle.walker_cli.specs.declared.answer.Answer.TheVariants.{Spherical}
 use Rattle.walker_cli.specs.declared.answer.Answer.TheVariants.{FileTooLong, TessLine, TessKinds}
 use Rattle.walker_cli.specs.declared.answer.Answer.TheVariants.{RulesSyntax, RulesShape, Broken}
 
@@ -31,9 +34,11 @@ code_of FileTooLongStatus = 4
 code_of TessRefused = 5
 code_of RulesText = 6
 code_of NotAccepted = 7
+code_of SphericalStatus = 8
 code_of Memory = 11
 code_of ReadFault = 12
 code_of WriteFault = 13
+code_of StoreFaultStatus = 14
 code_of InputTooLong = 15
 
 -- What a status tells of: the line of an answer, the outside, the stream of commands, or memory.
@@ -51,9 +56,11 @@ class_of FileTooLongStatus = OfLine
 class_of TessRefused = OfLine
 class_of RulesText = OfLine
 class_of NotAccepted = OfLine
+class_of SphericalStatus = OfLine
 class_of Memory = OfMemory
 class_of ReadFault = OfStream
 class_of WriteFault = OfOutside
+class_of StoreFaultStatus = OfOutside
 class_of InputTooLong = OfStream
 
 -- the status of an answer
@@ -67,6 +74,7 @@ status_of (TessKinds fault) = TessRefused
 status_of RulesSyntax = RulesText
 status_of (RulesShape part index) = RulesText
 status_of (Broken at) = NotAccepted
+status_of (Spherical p q) = SphericalStatus
 
 -- numbers, each behind a space, and a line feed
 abbrev pub numbers_text : List ℕ → List ℕ
@@ -108,17 +116,24 @@ line_of (TessKinds fault) = kind_fault_line fault
 line_of RulesSyntax = numbered (codes "rules syntax") []
 line_of (RulesShape part index) = numbered (shape_words_of part) (index ∷ [])
 line_of (Broken at) = numbered (codes "broken") (at.condition ∷ at.first ∷ at.second ∷ [])
+line_of (Spherical p q) = numbered (codes "spherical") (p ∷ q ∷ [])
 
 -- the line that tells of a file that could not be read
 abbrev pub fault_line : Role → List ℕ
 fault_line Tess = numbered (codes "file fault tess") []
 fault_line Rules = numbered (codes "file fault rules") []
 
+-- the line that tells of a file that could not be written
+abbrev pub store_fault_line : List ℕ
+store_fault_line = numbered (codes "store fault") []
+
 -- the status and the line of what is said
 abbrev pub saying_status : Saying → Status
 saying_status (Due answer) = status_of answer
 saying_status (FileFault role) = FileFaultStatus
+saying_status StoreFault = StoreFaultStatus
 
 abbrev pub saying_line : Saying → List ℕ
 saying_line (Due answer) = line_of answer
 saying_line (FileFault role) = fault_line role
+saying_line StoreFault = store_fault_line

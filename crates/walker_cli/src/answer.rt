@@ -1,7 +1,8 @@
 //! What a call of the program says, with its status and its line.
 ghost use Rattle.std.specs.Prelude.{◌≡◌, IfOk};
 ghost use Rattle.walker_cli.specs.StatusLines.{status_of, line_of, saying_status, saying_line};
-ghost use Rattle.walker_cli.specs.StatusLines.{fault_line, numbered, kind_fault_line};
+ghost use Rattle.walker_cli.specs.StatusLines.{fault_line, store_fault_line, numbered};
+ghost use Rattle.walker_cli.specs.StatusLines.{kind_fault_line};
 ghost use Rattle.walker_cli.specs.StatusLines.{shape_words_of};
 
 use crate::status::Status;
@@ -25,7 +26,8 @@ pub enum Answer {
     TypeTold(DartType),
     /// The rules are accepted: their numbers of states and of corner types.
     Accepted { states: u32, corners: u32 },
-    /// The words are in no form, or name no kind of the tessellation.
+    /// The words are in no form, or name no kind of the tessellation, or ask for rules that are made
+    /// for a tessellation that is not regular.
     Usage,
     /// A file is longer than its limit.
     FileTooLong(Role),
@@ -39,6 +41,8 @@ pub enum Answer {
     RulesShape { part: Part, index: u32 },
     /// The least condition that the rules break, at its least place.
     Broken(Broken),
+    /// The tessellation {p,q} has finitely many tiles: it has no rules.
+    Spherical { p: u8, q: u8 },
 }
 
 impl Answer {
@@ -53,6 +57,7 @@ impl Answer {
             Answer::TessLine(_) | Answer::TessKinds(_) => Status::TessRefused,
             Answer::RulesSyntax | Answer::RulesShape { .. } => Status::RulesText,
             Answer::Broken(_) => Status::NotAccepted,
+            Answer::Spherical { .. } => Status::Spherical,
         }
     }
 
@@ -87,6 +92,11 @@ impl Answer {
                 "broken",
                 &[u32::from(at.condition), at.first, u32::from(at.second)],
             ),
+            Answer::Spherical { p, q } => print_line(
+                alloc,
+                "spherical",
+                &[u32::from(*p), u32::from(*q)],
+            ),
         }
     }
 }
@@ -98,6 +108,8 @@ pub enum Saying {
     Due(Answer),
     /// A file could not be read.
     FileFault(Role),
+    /// The rules could not be stored.
+    StoreFault,
 }
 
 impl Saying {
@@ -108,6 +120,7 @@ impl Saying {
         match self {
             Saying::Due(answer) => answer.status(),
             Saying::FileFault(_) => Status::FileFault,
+            Saying::StoreFault => Status::StoreFault,
         }
     }
 
@@ -122,6 +135,7 @@ impl Saying {
         match self {
             Saying::Due(answer) => answer.line(alloc),
             Saying::FileFault(role) => print_file_fault(alloc, *role),
+            Saying::StoreFault => print_store_fault(alloc),
         }
     }
 }
@@ -134,6 +148,13 @@ fn print_file_fault(alloc: Global, role: Role) -> Result<Vec<u8>, AllocError>
         Role::Tess => print_line(alloc, "file fault tess", &[]),
         Role::Rules => print_line(alloc, "file fault rules", &[]),
     }
+}
+
+/// The line of rules that could not be stored.
+fn print_store_fault(alloc: Global) -> Result<Vec<u8>, AllocError>
+    ensures { IfOk result (λ line. line.items ≡ store_fault_line) }
+{
+    print_line(alloc, "store fault", &[])
 }
 
 /// A text, then each number behind a space, then a line feed.

@@ -1,22 +1,24 @@
 //! What a call of the program comes to, before the input is read and anything is written.
 ghost use Rattle.std.specs.Prelude.{◌≡◌, ◌≤◌, ◌<◌, ℕ, List, length, map, IsTrue, IfOk, Ok, Err};
+ghost use Rattle.std.specs.Prelude.{Option, Some, None};
 ghost use Rattle.tile_model.specs.Tessellations.{TileKind};
 ghost use Rattle.tree_model.specs.Automata.{TreeAutomaton};
 ghost use Rattle.std.specs.String.{string_bytes};
 ghost use Rattle.way_io.specs.Counts.{Rose};
 ghost use Rattle.way_io.specs.Contents.{KeepsAll};
-ghost use Rattle.walker_cli.specs.Tasks.{TellType, CheckRules, RunSession, Ask, HaveNoForm};
-ghost use Rattle.walker_cli.specs.Tasks.{AreNotOfRun};
-ghost use Rattle.walker_cli.specs.Forms.{task_of};
+ghost use Rattle.walker_cli.specs.Tasks.{TellType, CheckRules, RunSession, LearnRules, Ask};
+ghost use Rattle.walker_cli.specs.Tasks.{HaveNoForm, AreNotOfRun, IsLearnForm, IsOut};
+ghost use Rattle.walker_cli.specs.Forms.{task_of, name_of};
 ghost use Rattle.walker_cli.specs.Runs.{call_with};
-ghost use Rattle.walker_cli.specs.Due.{Row, IsDue, Serves};
+ghost use Rattle.walker_cli.specs.Due.{Row, IsDue, Serves, Makes};
 ghost use Rattle.walker_cli.specs.Loading.{IfPlan, ServesFor, FitsTask, IsPlanDue, SaysAs};
-ghost use Rattle.walker_cli.specs.Loading.{ServesOver};
-ghost use Rattle.walker_cli.specs.Loading.{SaysSome, HasKind, TellsFault, Settles};
+ghost use Rattle.walker_cli.specs.Loading.{ServesOver, StoresAs, KeepsByPlan, PlansStored};
+ghost use Rattle.walker_cli.specs.Loading.{SaysSome, IsReady, TellsFault, TellsStoreFault, Settles};
 
 use crate::answer::{Answer, Role, Saying};
-use crate::load::{Refusal, load_rules, load_tess};
-use crate::words::{Form, WordsFault, read_words};
+use crate::learn::learn;
+use crate::load::{Refusal, find_rules, load_tess};
+use crate::words::{Form, Named, WordsFault, read_words};
 use std::alloc::{AllocError, Global};
 use structure_check::Rules;
 use walk_words::{Walk, type_of};
@@ -48,6 +50,7 @@ fn tell_type<F: Files>(
     ensures failed { (r : Role) → result ≡ Err (Refusal.Said (Saying.FileFault r))
         → Rose (F.fetch_faults files.old) (F.fetch_faults files.new) }
     ensures no_fault { IfOk result (λ plan. TellsFault plan → ⊥) }
+    ensures no_store { IfPlan result (λ plan. TellsStoreFault plan → ⊥) }
     ensures same { IsTrue F.tells → KeepsAll (F.contents files.old) (F.contents files.new) }
     ensures stores { F.store_faults files.new ≡ F.store_faults files.old }
 {
@@ -79,6 +82,7 @@ fn check_rules<F: Files>(
     ensures failed { (r : Role) → result ≡ Err (Refusal.Said (Saying.FileFault r))
         → Rose (F.fetch_faults files.old) (F.fetch_faults files.new) }
     ensures no_fault { IfOk result (λ plan. TellsFault plan → ⊥) }
+    ensures no_store { IfPlan result (λ plan. TellsStoreFault plan → ⊥) }
     ensures same { IsTrue F.tells → KeepsAll (F.contents files.old) (F.contents files.new) }
     ensures stores { F.store_faults files.new ≡ F.store_faults files.old }
 {
@@ -86,7 +90,7 @@ fn check_rules<F: Files>(
         Ok(tess) => tess,
         Err(unread) => return Err(unread),
     };
-    let rules = match load_rules(alloc, files, tess, rules) {
+    let rules = match find_rules(alloc, files, tess, Named::File(rules)) {
         Ok(rules) => rules,
         Err(refusal) => return Err(refusal),
     };
@@ -94,7 +98,7 @@ fn check_rules<F: Files>(
 }
 
 /// The answer that tells how many states and corner types rules have.
-fn accepted(rules: &Rules) -> Answer
+pub fn accepted(rules: &Rules) -> Answer
     ensures { result ≡ Answer.Accepted
         (length rules.now.automaton.states) (length rules.now.automaton.corners) }
 {
@@ -105,27 +109,28 @@ fn accepted(rules: &Rules) -> Answer
     }
 }
 
-/// The rules of a file that are accepted over the tessellation of a file, and a kind of it, to
-/// serve walkers over.
+/// The rules of a file that are accepted over the tessellation of a file, or those that are made for
+/// it, and a kind of it, to serve walkers over.
 fn open_session<F: Files>(
     alloc: Global,
     files: &mut F,
     tess: &str,
     kind: u32,
-    rules: &str,
+    rules: Named,
 ) -> Result<Plan, Refusal>
-    ensures due { IsTrue F.tells
-        → IfPlan result (FitsTask (F.contents files.old) (RunSession tess.now kind rules.now)) }
+    ensures due { IsTrue F.tells → IfPlan result
+        (FitsTask (F.contents files.old) (RunSession tess.now kind (name_of rules.entry))) }
     ensures exact { IsTrue F.tells → (answer : Answer)
-        → Row (F.contents files.old) (RunSession tess.now kind rules.now) answer
+        → Row (F.contents files.old) (RunSession tess.now kind (name_of rules.entry)) answer
         → IfPlan result (SaysAs answer) }
     ensures serves { IsTrue F.tells → (kinds : List TileKind) (a : TreeAutomaton) (k : ℕ)
-        → ServesFor (F.contents files.old) (RunSession tess.now kind rules.now) kinds a k
+        → ServesFor (F.contents files.old) (RunSession tess.now kind (name_of rules.entry)) kinds a k
         → IfPlan result (ServesOver kinds a k) }
-    ensures kind { IfOk result HasKind }
+    ensures ready { IfOk result IsReady }
     ensures failed { (r : Role) → result ≡ Err (Refusal.Said (Saying.FileFault r))
         → Rose (F.fetch_faults files.old) (F.fetch_faults files.new) }
     ensures no_fault { IfOk result (λ plan. TellsFault plan → ⊥) }
+    ensures no_store { IfPlan result (λ plan. TellsStoreFault plan → ⊥) }
     ensures same { IsTrue F.tells → KeepsAll (F.contents files.old) (F.contents files.new) }
     ensures stores { F.store_faults files.new ≡ F.store_faults files.old }
 {
@@ -136,7 +141,7 @@ fn open_session<F: Files>(
     if kind >= u32::from(tess.kinds()) {
         return Ok(Plan::Say(Saying::Due(Answer::Usage)));
     }
-    match load_rules(alloc, files, tess, rules) {
+    match find_rules(alloc, files, tess, rules) {
         Ok(rules) => Ok(Plan::Serve {
             rules,
             kind: kind as u8,
@@ -155,19 +160,31 @@ fn carry_out<F: Files>(alloc: Global, form: &Form, files: &mut F) -> Result<Plan
     ensures serves { IsTrue F.tells → (kinds : List TileKind) (a : TreeAutomaton) (k : ℕ)
         → ServesFor (F.contents files.old) (task_of form.now) kinds a k
         → IfPlan result (ServesOver kinds a k) }
-    ensures kind { IfOk result HasKind }
+    ensures ready { IfOk result IsReady }
     ensures said { (words : List (List ℕ)) → Ask words (task_of form.now) → AreNotOfRun words
         → IfOk result SaysSome }
     ensures failed { (r : Role) → result ≡ Err (Refusal.Said (Saying.FileFault r))
         → Rose (F.fetch_faults files.old) (F.fetch_faults files.new) }
     ensures no_fault { IfOk result (λ plan. TellsFault plan → ⊥) }
-    ensures same { IsTrue F.tells → KeepsAll (F.contents files.old) (F.contents files.new) }
-    ensures stores { F.store_faults files.new ≡ F.store_faults files.old }
+    ensures store_failed { IfPlan result (λ plan. TellsStoreFault plan
+        → Rose (F.store_faults files.old) (F.store_faults files.new)) }
+    ensures others { IsTrue F.tells → (file : List ℕ) → (StoresAs (task_of form.now) file → ⊥)
+        → F.contents files.new file ≡ F.contents files.old file }
+    ensures kept { IsTrue F.tells
+        → IfPlan result (KeepsByPlan (F.contents files.old) (F.contents files.new)) }
+    ensures stored { IsTrue F.tells
+        → (tess out : List ℕ) (kinds : List TileKind) (a : TreeAutomaton)
+        → task_of form.now ≡ LearnRules tess (Some out)
+        → Makes (F.contents files.old) tess kinds a
+        → IfPlan result (PlansStored (F.contents files.new) out a) }
+    ensures stores { ((file : List ℕ) → StoresAs (task_of form.now) file → ⊥)
+        → F.store_faults files.new ≡ F.store_faults files.old }
 {
     match form {
         Form::Kind { tess, kind, walk } => tell_type(alloc, files, tess, *kind, walk),
         Form::Check { tess, rules } => check_rules(alloc, files, tess, rules),
-        Form::Run { tess, kind, rules } => open_session(alloc, files, tess, *kind, rules),
+        Form::Run { tess, kind, rules } => open_session(alloc, files, tess, *kind, *rules),
+        Form::Learn { tess, out } => learn(alloc, files, tess, *out),
     }
 }
 
@@ -188,11 +205,23 @@ pub fn decide<F: Files>(alloc: Global, words: &[String], files: &mut F) -> Resul
     ensures no_form { HaveNoForm (map string_bytes words.now)
         → IfOk result (λ plan. plan ≡ Plan.Say (Saying.Due Answer.Usage)) }
     ensures said { AreNotOfRun (map string_bytes words.now) → IfOk result SaysSome }
-    ensures kind { IfOk result HasKind }
+    ensures ready { IfOk result IsReady }
     ensures failed { IfOk result
         (λ plan. TellsFault plan → Rose (F.fetch_faults files.old) (F.fetch_faults files.new)) }
-    ensures same { IsTrue F.tells → KeepsAll (F.contents files.old) (F.contents files.new) }
-    ensures stores { F.store_faults files.new ≡ F.store_faults files.old }
+    ensures store_failed { IfOk result (λ plan. TellsStoreFault plan
+        → Rose (F.store_faults files.old) (F.store_faults files.new)) }
+    ensures others { IsTrue F.tells
+        → (file : List ℕ) → (IsOut (map string_bytes words.now) file → ⊥)
+        → F.contents files.new file ≡ F.contents files.old file }
+    ensures kept { IsTrue F.tells
+        → IfOk result (KeepsByPlan (F.contents files.old) (F.contents files.new)) }
+    ensures stored { IsTrue F.tells
+        → (tess out : List ℕ) (kinds : List TileKind) (a : TreeAutomaton)
+        → IsLearnForm (map string_bytes words.now) tess (Some out)
+        → Makes (F.contents files.old) tess kinds a
+        → IfOk result (PlansStored (F.contents files.new) out a) }
+    ensures stores { ((file : List ℕ) → IsOut (map string_bytes words.now) file → ⊥)
+        → F.store_faults files.new ≡ F.store_faults files.old }
     ensures unfetched { HaveNoForm (map string_bytes words.now) → files.new ≡ files.old }
 {
     let form = match read_words(alloc, words) {

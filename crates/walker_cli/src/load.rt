@@ -1,13 +1,14 @@
 //! The files that the words name: fetched, read and checked.
 ghost use Rattle.std.specs.Prelude.{◌≡◌, ◌⊎◌, ◌≤◌, ℕ, List, length, IsTrue, IfOk, IfErr};
-ghost use Rattle.std.specs.Prelude.{MatchResult, Err};
+ghost use Rattle.std.specs.Prelude.{MatchResult, Err, Some};
 ghost use Rattle.tile_model.specs.Tessellations.{TileKind};
 ghost use Rattle.tile_model.specs.Validity.{IsValid};
 ghost use Rattle.tree_model.specs.Automata.{TreeAutomaton};
 ghost use Rattle.way_io.specs.Counts.{Rose};
 ghost use Rattle.way_io.specs.Contents.{KeepsAll};
 ghost use Rattle.walker_cli.specs.Held.{Loaded, Refused, Holds, HoldsTooMany, IsTess, IsRules};
-ghost use Rattle.walker_cli.specs.Held.{broken_at, tess_limit, rules_limit};
+ghost use Rattle.walker_cli.specs.Held.{broken_at, tess_limit, rules_limit, Outcome, IsMade};
+ghost use Rattle.walker_cli.specs.Held.{RulesOf};
 ghost use Rattle.tess_text.specs.Grammar.{IsFirstBadLine};
 ghost use Rattle.tess_text.specs.Spelling.{IsSpelling, IsRefused};
 ghost use Rattle.tile_model.specs.declared.fault.KindFault.{KindFault};
@@ -17,9 +18,12 @@ ghost use Rattle.rules_file.specs.Spelling.{IsTextOf, IsRulesFile};
 ghost use Rattle.rules_file.specs.Faults.{IsFirstFault};
 ghost use Rattle.tree_model.specs.Conditions.{IsAccepted};
 ghost use Rattle.structure_check.specs.Broken.{IsFirstBroken};
-ghost use Rattle.walker_cli.specs.Loading.{IsRefusedAs, IsOfOutside};
+ghost use Rattle.walker_cli.specs.Loading.{IsRefusedAs, IsOfOutside, RulesCome};
+ghost use Rattle.walker_cli.specs.Forms.{name_of};
 
 use crate::answer::{Answer, Role, Saying};
+use crate::words::Named;
+use regular_maker::{RegFault, regular};
 use rules_file::{RulesFault, read_rules};
 use std::alloc::Global;
 use structure_check::{Rules, check};
@@ -54,6 +58,7 @@ fn fetch<F: Files>(
         → IfOk result (λ bytes. Holds (F.contents files.old) name.now limit bytes.items) }
     ensures within { IfOk result (λ bytes. length bytes.items ≤ limit) }
     ensures role { (r : Role) → result ≡ Err (Refusal.Said (Saying.FileFault r)) → r ≡ role }
+    ensures no_store { result ≡ Err (Refusal.Said Saying.StoreFault) → ⊥ }
     ensures refused { IsTrue F.tells
         → (answer : Answer) → result ≡ Err (Refusal.Said (Saying.Due answer))
         → (answer ≡ Answer.FileTooLong role) × HoldsTooMany (F.contents files.old) name.now limit }
@@ -86,6 +91,7 @@ pub fn load_tess<F: Files>(
         → IfOk result (λ t. IsTess (F.contents files.old) name.now (Loaded t)) }
     ensures valid { IfOk result IsValid }
     ensures role { (r : Role) → result ≡ Err (Refusal.Said (Saying.FileFault r)) → r ≡ Role.Tess }
+    ensures no_store { result ≡ Err (Refusal.Said Saying.StoreFault) → ⊥ }
     ensures refused { IsTrue F.tells
         → (answer : Answer) → result ≡ Err (Refusal.Said (Saying.Due answer))
         → IsTess (F.contents files.old) name.now (Refused answer) }
@@ -120,7 +126,7 @@ pub fn load_tess<F: Files>(
 }
 
 /// The rules that a file holds, checked over a tessellation.
-pub fn load_rules<F: Files>(
+fn load_rules<F: Files>(
     alloc: Global,
     files: &mut F,
     tess: Tessellation,
@@ -129,7 +135,9 @@ pub fn load_rules<F: Files>(
     ensures ok { IsTrue F.tells
         → IfOk result (λ r. IsRules (F.contents files.old) tess name.now (Loaded r.automaton)) }
     ensures kinds { IfOk result (λ r. r.kinds ≡ tess) }
+    ensures accepted { IfOk result (λ r. IsAccepted r.kinds r.automaton) }
     ensures role { (r : Role) → result ≡ Err (Refusal.Said (Saying.FileFault r)) → r ≡ Role.Rules }
+    ensures no_store { result ≡ Err (Refusal.Said Saying.StoreFault) → ⊥ }
     ensures refused { IsTrue F.tells
         → (answer : Answer) → result ≡ Err (Refusal.Said (Saying.Due answer))
         → IsRules (F.contents files.old) tess name.now (Refused answer) }
@@ -172,5 +180,58 @@ pub fn load_rules<F: Files>(
     match check(tess, automaton) {
         Ok(rules) => Ok(rules),
         Err((_, _, broken)) => Err(Refusal::Said(Saying::Due(Answer::Broken(broken)))),
+    }
+}
+
+/// The rules that are made for a tessellation.
+pub fn make_rules(alloc: Global, tess: &Tessellation) -> Result<Rules, Refusal>
+    ensures ok { IfOk result (λ r. IsMade tess.now (Loaded r.automaton)) }
+    ensures kinds { IfOk result (λ r. r.kinds ≡ tess.now) }
+    ensures accepted { IfOk result (λ r. IsAccepted r.kinds r.automaton) }
+    ensures role { (r : Role) → result ≡ Err (Refusal.Said (Saying.FileFault r)) → ⊥ }
+    ensures no_store { result ≡ Err (Refusal.Said Saying.StoreFault) → ⊥ }
+    ensures refused { (answer : Answer) → result ≡ Err (Refusal.Said (Saying.Due answer))
+        → IsMade tess.now (Refused answer) }
+    ensures comes { (outcome : Outcome TreeAutomaton) → IsMade tess.now outcome
+        → RulesCome outcome result }
+{
+    match regular(alloc, tess) {
+        Ok(rules) => Ok(rules),
+        Err(RegFault::NotRegular) => Err(Refusal::Said(Saying::Due(Answer::Usage))),
+        Err(RegFault::Spherical { p, q }) => {
+            Err(Refusal::Said(Saying::Due(Answer::Spherical { p, q })))
+        }
+        Err(RegFault::Memory) => Err(Refusal::Memory),
+    }
+}
+
+/// The rules of a file over a tessellation, or those that are made for it where no file is named.
+pub fn find_rules<F: Files>(
+    alloc: Global,
+    files: &mut F,
+    tess: Tessellation,
+    rules: Named,
+) -> Result<Rules, Refusal>
+    ensures ok { IsTrue F.tells → IfOk result
+        (λ r. RulesOf (F.contents files.old) tess (name_of rules.entry) (Loaded r.automaton)) }
+    ensures kinds { IfOk result (λ r. r.kinds ≡ tess) }
+    ensures accepted { IfOk result (λ r. IsAccepted r.kinds r.automaton) }
+    ensures role { (r : Role) → result ≡ Err (Refusal.Said (Saying.FileFault r))
+        → (r ≡ Role.Rules) × (file : List ℕ) × (name_of rules.entry ≡ Some file) }
+    ensures no_store { result ≡ Err (Refusal.Said Saying.StoreFault) → ⊥ }
+    ensures refused { IsTrue F.tells
+        → (answer : Answer) → result ≡ Err (Refusal.Said (Saying.Due answer))
+        → RulesOf (F.contents files.old) tess (name_of rules.entry) (Refused answer) }
+    ensures comes { IsTrue F.tells → (outcome : Outcome TreeAutomaton)
+        → RulesOf (F.contents files.old) tess (name_of rules.entry) outcome
+        → RulesCome outcome result }
+    ensures failed { (r : Role) → result ≡ Err (Refusal.Said (Saying.FileFault r))
+        → Rose (F.fetch_faults files.old) (F.fetch_faults files.new) }
+    ensures same { IsTrue F.tells → KeepsAll (F.contents files.old) (F.contents files.new) }
+    ensures stores { F.store_faults files.new ≡ F.store_faults files.old }
+{
+    match rules {
+        Named::File(name) => load_rules(alloc, files, tess, name),
+        Named::Nothing => make_rules(alloc, &tess),
     }
 }

@@ -4,6 +4,7 @@
 
 mod answer;
 mod decide;
+mod learn;
 mod load;
 mod run;
 mod saying;

@@ -1,10 +1,9 @@
 //! The top call: all that the program does with its words.
-ghost use Rattle.std.specs.Prelude.{◌≡◌, ◌⊎◌, map, IsTrue};
+ghost use Rattle.std.specs.Prelude.{◌≡◌, ◌⊎◌, ℕ, List, map, IsTrue};
 ghost use Rattle.std.specs.String.{string_bytes};
 ghost use Rattle.way_io.specs.Counts.{Rose};
-ghost use Rattle.way_io.specs.Contents.{KeepsAll};
 ghost use Rattle.line_server.specs.Endings.{GivesInOrder, TakesMore};
-ghost use Rattle.walker_cli.specs.Tasks.{HaveNoForm, AreNotOfRun};
+ghost use Rattle.walker_cli.specs.Tasks.{HaveNoForm, AreNotOfRun, IsOut};
 ghost use Rattle.walker_cli.specs.Runs.{call_with, seen};
 ghost use Rattle.walker_cli.specs.Due.{IsDue};
 ghost use Rattle.walker_cli.specs.Promise.{KeepsPromise};
@@ -19,7 +18,9 @@ use std::alloc::Global;
 use way_io::{Files, Sink, Source};
 
 /// Does what the words ask for, writes to `out`, and tells how it ended. Words of the form `run`
-/// ask for the replies to the commands of `input`; all others for one line.
+/// ask for the replies to the commands of `input`; all others for one line. Words of the form
+/// `learn` may name a file in which rules are stored, before the line is written; no other file
+/// changes.
 ///
 /// What the replies mean is a law over replies alone (`reply_laws::laws::names`): the names that two
 /// commands `at` are answered are equal exactly where the walks of their walkers are at the same
@@ -85,8 +86,11 @@ fn carry_out_plan<F: Files, I: Source, O: Sink>(
         → Rose (I.faults input.old) (I.faults input.new) }
     ensures write_fault { result ≡ Status.WriteFault → Rose (O.faults out.old) (O.faults out.new) }
     ensures taken { IsTrue O.tells → TakesMore (O.taken out.old) (O.taken out.new) }
-    ensures contents { IsTrue F.tells → KeepsAll (F.contents files.old) (F.contents files.new) }
-    ensures stores { F.store_faults files.new ≡ F.store_faults files.old }
+    ensures others { IsTrue F.tells
+        → (file : List ℕ) → (IsOut (map string_bytes words.now) file → ⊥)
+        → F.contents files.new file ≡ F.contents files.old file }
+    ensures stores { ((file : List ℕ) → IsOut (map string_bytes words.now) file → ⊥)
+        → F.store_faults files.new ≡ F.store_faults files.old }
     ensures left { IsTrue I.tells → GivesInOrder (I.left input.old) (I.left input.new) }
     ensures unfetched { HaveNoForm (map string_bytes words.now) → files.new ≡ files.old }
     ensures unasked { AreNotOfRun (map string_bytes words.now) → input.new ≡ input.old }

@@ -7,7 +7,8 @@ ghost use Rattle.walker_cli.specs.StatusLines.{code_of};
 pub enum Status {
     /// What the words ask for was done and written.
     Done,
-    /// The words are in no form, or name a kind that is not there.
+    /// The words are in no form, or name a kind that is not there, or ask for rules of a tessellation
+    /// that is not regular.
     Usage,
     /// A file could not be read.
     FileFault,
@@ -19,12 +20,16 @@ pub enum Status {
     RulesText,
     /// The rules break a condition.
     NotAccepted,
+    /// The tessellation has finitely many tiles, and no rules are made for it.
+    Spherical,
     /// There was no memory.
     Memory,
     /// Reading the input failed.
     ReadFault,
     /// Writing failed.
     WriteFault,
+    /// The rules could not be stored.
+    StoreFault,
     /// The input has over 268,435,456 bytes.
     InputTooLong,
 }
@@ -42,9 +47,11 @@ impl Status {
             Status::TessRefused => 5,
             Status::RulesText => 6,
             Status::NotAccepted => 7,
+            Status::Spherical => 8,
             Status::Memory => 11,
             Status::ReadFault => 12,
             Status::WriteFault => 13,
+            Status::StoreFault => 14,
             Status::InputTooLong => 15,
         }
     }

@@ -15,6 +15,9 @@ use way_io::{FillSource, MemFiles, MemSink, MemSource, Source};
 // Pentagons, three round each corner.
 const DODECAHEDRON: &str = "tess 1\nkind 0 5 1\njoin 0 0 0 0\ncorner 0 0 3\n";
 
+// Squares, four round each corner.
+const SQUARES: &str = "tess 1\nkind 0 4 1\njoin 0 0 0 0\ncorner 0 0 4\n";
+
 // A text with one place changed.
 fn changed(alloc: Global, text: &str, old: &str, new: &str) -> Result<Vec<u8>, AllocError> {
     let bytes = text.as_bytes();
@@ -29,10 +32,16 @@ fn changed(alloc: Global, text: &str, old: &str, new: &str) -> Result<Vec<u8>, A
 
 // The files of a row: the samples, and these bytes under the name `x`.
 fn files(alloc: Global, x: &[u8]) -> Result<MemFiles, AllocError> {
-    let mut files = MemFiles::new(alloc, &[])?;
+    failing_files(alloc, x, &[])
+}
+
+// The same, of whose calls those with these numbers fail.
+fn failing_files(alloc: Global, x: &[u8], failing: &[u32]) -> Result<MemFiles, AllocError> {
+    let mut files = MemFiles::new(alloc, failing)?;
     for (name, text) in [
         ("p54.tess", PENTAGONS_TESS),
         ("p53.tess", DODECAHEDRON),
+        ("p44.tess", SQUARES),
         ("p73.tess", HEPTAGONS_TESS),
         ("hr.tess", HEPTAGONS_AND_HEXAGONS_TESS),
         ("p54.json", PENTAGONS_RULES),
@@ -97,6 +106,19 @@ fn words_lead_to_lines(rt: HostRuntime) -> Result<(), Fail> {
         ("run hr.tess 0 --rules p54.json", "broken 1 0 0\n", 7),
         ("run p54.tess 0 --cells p54.json", "usage\n", 2),
         ("run p54.tess 0x --rules p54.json", "usage\n", 2),
+        ("run p54.tess 0 --rules p54.json --cells 5", "usage\n", 2),
+        ("run p53.tess 0 --cells 5", "spherical 5 3\n", 8),
+        ("run hr.tess 0", "usage\n", 2),
+        ("run p54.tess 1", "usage\n", 2),
+        ("learn p53.tess", "spherical 5 3\n", 8),
+        ("learn p54.tess --cells 1", "accepted 3 1\n", 0),
+        ("learn p73.tess", "accepted 3 2\n", 0),
+        ("learn hr.tess", "usage\n", 2),
+        ("learn p54.tess --cells 0", "usage\n", 2),
+        ("learn p54.tess --cells 1000001", "usage\n", 2),
+        ("learn p54.tess --cells 1 --cells 1", "usage\n", 2),
+        ("learn p54.tess --out x --out x", "usage\n", 2),
+        ("learn none.tess --out x", "file fault tess\n", 3),
     ] {
         assert!(rt; leads(alloc, words, b"", line, code)?, "{words}");
     }
@@ -263,6 +285,55 @@ fn measures_lines(rt: HostRuntime) -> Result<(), Fail> {
         assert!(rt;
             ends(alloc, &mut files, SESSION, &mut input, reply, 0)?,
             "{reply}"
+        );
+    }
+    Ok(())
+}
+
+#[test]
+fn stores_what_it_learns(rt: HostRuntime) -> Result<(), Fail> {
+    let alloc = rt.alloc();
+    for words in [
+        "learn p54.tess --out x.json",
+        "learn p54.tess --out x.json --cells 5",
+        "learn p54.tess --cells 5 --out x.json",
+    ] {
+        let mut files = files(alloc, b"")?;
+        let mut input = MemSource::new(alloc, b"", 10, &[])?;
+        assert!(rt;
+            ends(alloc, &mut files, words, &mut input, "accepted 3 1\n", 0)?,
+            "{words}"
+        );
+        assert!(rt;
+            files.content("x.json") == Some(PENTAGONS_RULES.as_bytes()),
+            "{words}"
+        );
+    }
+    Ok(())
+}
+
+#[test]
+fn tells_of_rules_that_are_not_stored(rt: HostRuntime) -> Result<(), Fail> {
+    let alloc = rt.alloc();
+    let mut files = failing_files(alloc, b"", &[2])?;
+    let mut input = MemSource::new(alloc, b"", 10, &[])?;
+    let words = "learn p54.tess --out x";
+    assert!(rt; ends(alloc, &mut files, words, &mut input, "store fault\n", 14)?);
+    assert!(rt; files.content("x") == Some(b""));
+    Ok(())
+}
+
+#[test]
+fn answers_commands_without_a_rules_file(rt: HostRuntime) -> Result<(), Fail> {
+    let alloc = rt.alloc();
+    let commands = b"new 0\nnew 1\ngo 0 LXLXLXLX\nsame 0 1\ngo 1 X\nsame 0 1\n";
+    let replies = "ok\nok\nok\nyes\nok\nno\n";
+    for words in ["run p44.tess 0", "run p44.tess 0 --cells 1000000"] {
+        let mut files = files(alloc, b"")?;
+        let mut input = MemSource::new(alloc, commands, 7, &[])?;
+        assert!(rt;
+            ends(alloc, &mut files, words, &mut input, replies, 0)?,
+            "{words}"
         );
     }
     Ok(())

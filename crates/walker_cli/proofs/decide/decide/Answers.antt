@@ -1,11 +1,12 @@
-use Rattle.std.proofs.Common.{Err, sym, ap}
+use Rattle.std.proofs.Common.{Err, Some, inl, refl, sym, ap}
 use Rattle.walker_cli.specs.Due.{no_form}
-use Rattle.walker_cli.specs.Tasks.{RunSession}
+use Rattle.walker_cli.specs.Tasks.{RunSession, LearnRules}
 use Rattle.walker_cli.specs.Forms.{task_of}
 use Rattle.walker_cli.proofs.Deciding.{row_of, formless}
-use Rattle.walker_cli.proofs.Sessions.{served_for, fit_due}
-use Rattle.walker_cli.specs.Loading.{IsPlanDue, SaysAs, ServesOver, SaysSome, HasKind}
-use Rattle.walker_cli.proofs.Settling.{settled, some_said, has_kind, fault_known}
+use Rattle.walker_cli.proofs.Sessions.{served_for, fit_due, out_of}
+use Rattle.walker_cli.proofs.OneTask.{one_task}
+use Rattle.walker_cli.specs.Loading.{IsPlanDue, SaysAs, ServesOver, SaysSome, IsReady, KeepsByPlan, PlansStored, StoresAs}
+use Rattle.walker_cli.proofs.Settling.{settled, some_said, is_ready, fault_known}
 use Rattle.walker_cli.proofs.decide.decide.Goals as goal
 
 pub returns-in-Err-Usage-clause-due : goal.returns-in-Err-Usage-clause-due
@@ -37,6 +38,32 @@ pub returns-clause-said : goal.returns-clause-said
 returns-clause-said g c = λ unasked. settled SaysSome c.carry_out.result c.settle.result c.settle.ensures
     (some_said c.carry_out.result (c.carry_out.ensures.said _ c.in-Ok.ensures.ok unasked))
 
-pub returns-clause-kind : goal.returns-clause-kind
-returns-clause-kind g c = settled HasKind c.carry_out.result c.settle.result c.settle.ensures
-    (has_kind c.carry_out.result c.carry_out.ensures.kind)
+pub returns-clause-ready : goal.returns-clause-ready
+returns-clause-ready g c = settled IsReady c.carry_out.result c.settle.result c.settle.ensures
+    (is_ready c.carry_out.result c.carry_out.ensures.ready)
+
+pub returns-clause-store_failed : goal.returns-clause-store_failed
+returns-clause-store_failed g c = settled _ c.carry_out.result c.settle.result c.settle.ensures c.carry_out.ensures.store_failed
+
+pub returns-clause-others : goal.returns-clause-others
+returns-clause-others g c = λ told file other. c.carry_out.ensures.others told file
+    (λ named. other (out_of _ (task_of c.in-Ok.form) file c.in-Ok.ensures.ok named))
+
+pub returns-clause-kept : goal.returns-clause-kept
+returns-clause-kept g c = λ told. settled (KeepsByPlan _ _) c.carry_out.result c.settle.result c.settle.ensures
+    (c.carry_out.ensures.kept told)
+
+pub returns-clause-stored : goal.returns-clause-stored
+returns-clause-stored g c = λ told tess out kinds a form makes. settled (PlansStored (g.F.Files.contents c.carry_out.new.files) out a) c.carry_out.result c.settle.result c.settle.ensures
+    (c.carry_out.ensures.stored told tess out kinds a (one_task _ (task_of c.in-Ok.form) (LearnRules tess (Some out)) c.in-Ok.ensures.ok form) makes)
+
+pub returns-clause-stores : goal.returns-clause-stores
+returns-clause-stores g c = λ none. c.carry_out.ensures.stores
+    (λ file named. none file (out_of _ (task_of c.in-Ok.form) file c.in-Ok.ensures.ok named))
+
+pub returns-in-Err-Usage-clause-stored : goal.returns-in-Err-Usage-clause-stored
+returns-in-Err-Usage-clause-stored g c = λ told tess out kinds a form makes.
+    absurd (c.in-Err-Usage.ensures.usage (ap Err c.in-Err-Usage.field-0-is) (LearnRules tess (Some out)) form)
+
+pub returns-in-Err-Usage-clause-kept : goal.returns-in-Err-Usage-clause-kept
+returns-in-Err-Usage-clause-kept g c = λ told. inl (λ name. refl)

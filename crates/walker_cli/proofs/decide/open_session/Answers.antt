@@ -1,30 +1,34 @@
 use Rattle.std.proofs.Common.{refl, subst, sym, ◌<◌, ◌≤◌, List, Err, Ok, length, rules, ◌∙◌, ap}
 use Rattle.tile_model.specs.Tessellations.{TileKind}
-use Rattle.structure_check.specs.Rules.{TreeRules}
 use Rattle.walker_cli.specs.Tasks.{RunSession}
 use Rattle.walker_cli.specs.Held.{Loaded, Refused}
 use Rattle.walker_cli.specs.declared.answer.Role.{Role}
 use Rattle.walker_cli.specs.Due.{session_no_tess, session_no_kind, session_no_rules, FetchesFor}
 use Rattle.walker_cli.specs.Loading.{ServesFor}
-use Rattle.walker_cli.proofs.Deciding.{outside_serves, refusal_fits, rules_kept, read_kept}
-use Rattle.walker_cli.proofs.Sessions.{session_unread, session_missing, session_failed, session_opened, served_unread, served_missing, served_failed, served_opened}
+use Rattle.walker_cli.proofs.Deciding.{outside_serves, refusal_fits, refused_plain, rules_kept, found_kept}
+use Rattle.walker_cli.specs.Forms.{name_of}
+use Rattle.walker_cli.proofs.Sessions.{fetches_rules, session_unread, session_missing, session_failed, session_opened, served_unread, served_missing, served_failed, served_opened}
 use Rattle.walker_cli.proofs.decide.open_session.Goals as goal
 
 pub returns-in-Err-clause-due : goal.returns-in-Err-clause-due
 returns-in-Err-clause-due g c = λ told.
-    refusal_fits (g.F.Files.contents c.args.files.now) (RunSession c.args.tess.now c.args.kind c.args.rules.now) c.in-Err.refusal (λ answer is. (session_no_tess answer (c.in-Err.ensures.refused told answer (ap Err is))))
-    (λ role is. subst (λ (r : Role). FetchesFor (g.F.Files.contents c.args.files.now) (RunSession c.args.tess.now c.args.kind c.args.rules.now) r) (sym (c.in-Err.ensures.role role (ap Err is))) tt)
+    refusal_fits (g.F.Files.contents c.args.files.now) (RunSession c.args.tess.now c.args.kind (name_of c.args.rules)) c.in-Err.refusal (λ answer is. (session_no_tess answer (c.in-Err.ensures.refused told answer (ap Err is))))
+    (λ role is. subst (λ (r : Role). FetchesFor (g.F.Files.contents c.args.files.now) (RunSession c.args.tess.now c.args.kind (name_of c.args.rules)) r) (sym (c.in-Err.ensures.role role (ap Err is))) tt)
+    (λ is. c.in-Err.ensures.no_store (ap Err is))
+
+pub returns-in-Err-clause-no_store : goal.returns-in-Err-clause-no_store
+returns-in-Err-clause-no_store g c = refused_plain c.in-Err.refusal (λ is. c.in-Err.ensures.no_store (ap Err is))
 
 pub returns-in-Err-clause-exact : goal.returns-in-Err-clause-exact
 returns-in-Err-clause-exact g c = λ told answer row.
-    session_unread {T = List TileKind} _ c.args.tess.now c.args.kind c.args.rules.now (λ t. t) c.in-Err.refusal
+    session_unread {T = List TileKind} _ c.args.tess.now c.args.kind (name_of c.args.rules) (λ t. t) c.in-Err.refusal
     (record { too_long = c.in-Err.ensures.too_long told; bad_line = c.in-Err.ensures.bad_line told; bad_kinds = c.in-Err.ensures.bad_kinds told; loaded = c.in-Err.ensures.loaded told })
     row
 
 pub returns-in-Err-clause-serves : goal.returns-in-Err-clause-serves
 returns-in-Err-clause-serves g c = λ told kinds a k serves.
     outside_serves kinds a k c.in-Err.refusal
-    (served_unread {T = List TileKind} _ c.args.tess.now c.args.kind c.args.rules.now kinds a k (λ t. t) c.in-Err.refusal
+    (served_unread {T = List TileKind} _ c.args.tess.now c.args.kind (name_of c.args.rules) kinds a k (λ t. t) c.in-Err.refusal
     (record { too_long = c.in-Err.ensures.too_long told; bad_line = c.in-Err.ensures.bad_line told; bad_kinds = c.in-Err.ensures.bad_kinds told; loaded = c.in-Err.ensures.loaded told })
     serves)
 
@@ -36,66 +40,67 @@ returns-then-kind-from-clause-due g c = λ told.
 pub returns-then-kind-from-clause-exact : goal.returns-then-kind-from-clause-exact
 returns-then-kind-from-clause-exact g c = λ told answer row.
     let few : length c.in-Ok.tess ≤ c.args.kind = search rules in
-    session_missing _ c.args.tess.now c.args.kind c.args.rules.now (λ (t : List TileKind). t) c.in-Ok.tess
+    session_missing _ c.args.tess.now c.args.kind (name_of c.args.rules) (λ (t : List TileKind). t) c.in-Ok.tess
     (record { too_long = c.in-Ok.ensures.too_long told; bad_line = c.in-Ok.ensures.bad_line told; bad_kinds = c.in-Ok.ensures.bad_kinds told; loaded = c.in-Ok.ensures.loaded told })
     few row
 
 pub returns-then-kind-from-clause-serves : goal.returns-then-kind-from-clause-serves
 returns-then-kind-from-clause-serves g c = λ told kinds a k serves.
     let few : length c.in-Ok.tess ≤ c.args.kind = search rules in
-    served_missing _ c.args.tess.now c.args.kind c.args.rules.now kinds a k (λ (t : List TileKind). t) c.in-Ok.tess
+    served_missing _ c.args.tess.now c.args.kind (name_of c.args.rules) kinds a k (λ (t : List TileKind). t) c.in-Ok.tess
     (record { too_long = c.in-Ok.ensures.too_long told; bad_line = c.in-Ok.ensures.bad_line told; bad_kinds = c.in-Ok.ensures.bad_kinds told; loaded = c.in-Ok.ensures.loaded told })
     few serves
 
-pub returns-in-Err-load_rules-clause-due : goal.returns-in-Err-load_rules-clause-due
-returns-in-Err-load_rules-clause-due g c = λ told.
+pub returns-in-Err-find_rules-clause-due : goal.returns-in-Err-find_rules-clause-due
+returns-in-Err-find_rules-clause-due g c = λ told.
     let lt : c.args.kind < length c.in-Ok.tess = search rules in
-    refusal_fits (g.F.Files.contents c.args.files.now) (RunSession c.args.tess.now c.args.kind c.args.rules.now) c.in-Err-load_rules.refusal (λ answer is.
+    refusal_fits (g.F.Files.contents c.args.files.now) (RunSession c.args.tess.now c.args.kind (name_of c.args.rules)) c.in-Err-find_rules.refusal (λ answer is.
     (session_no_rules c.in-Ok.tess answer (c.in-Ok.ensures.ok told) lt
-    (rules_kept (c.in-Ok.ensures.same told) c.in-Ok.tess c.args.rules.now (Refused answer) (c.in-Err-load_rules.ensures.refused told answer (ap Err is)))))
-    (λ role is. subst (λ (r : Role). FetchesFor (g.F.Files.contents c.args.files.now) (RunSession c.args.tess.now c.args.kind c.args.rules.now) r) (sym (c.in-Err-load_rules.ensures.role role (ap Err is))) (c.in-Ok.tess, c.in-Ok.ensures.ok told, lt))
+    (rules_kept (c.in-Ok.ensures.same told) c.in-Ok.tess (name_of c.args.rules) (Refused answer) (c.in-Err-find_rules.ensures.refused told answer (ap Err is)))))
+    (λ role is. let found = c.in-Err-find_rules.ensures.role role (ap Err is) in
+    fetches_rules (g.F.Files.contents c.args.files.now) c.args.tess.now c.args.kind (name_of c.args.rules) found.1 role found.2 found.0 (c.in-Ok.tess, c.in-Ok.ensures.ok told, lt))
+    (λ is. c.in-Err-find_rules.ensures.no_store (ap Err is))
 
-pub returns-in-Err-load_rules-clause-exact : goal.returns-in-Err-load_rules-clause-exact
-returns-in-Err-load_rules-clause-exact g c = λ told answer row.
+pub returns-in-Err-find_rules-clause-no_store : goal.returns-in-Err-find_rules-clause-no_store
+returns-in-Err-find_rules-clause-no_store g c = refused_plain c.in-Err-find_rules.refusal (λ is. c.in-Err-find_rules.ensures.no_store (ap Err is))
+
+pub returns-in-Err-find_rules-clause-exact : goal.returns-in-Err-find_rules-clause-exact
+returns-in-Err-find_rules-clause-exact g c = λ told answer row.
     let lt : c.args.kind < length c.in-Ok.tess = search rules in
-    session_failed _ c.args.tess.now c.args.kind c.args.rules.now (λ (t : List TileKind). t) c.in-Ok.tess (λ (r : TreeRules). r.automaton) c.in-Err-load_rules.refusal
+    session_failed _ c.args.tess.now c.args.kind (name_of c.args.rules) (λ (t : List TileKind). t) c.in-Ok.tess c.in-Err-find_rules.refusal
     (record { too_long = c.in-Ok.ensures.too_long told; bad_line = c.in-Ok.ensures.bad_line told; bad_kinds = c.in-Ok.ensures.bad_kinds told; loaded = c.in-Ok.ensures.loaded told })
-    (read_kept (c.in-Ok.ensures.same told) c.in-Ok.tess c.args.rules.now (λ (r : TreeRules). r.automaton) (Err c.in-Err-load_rules.refusal)
-    (record { too_long = c.in-Err-load_rules.ensures.too_long told; no_text = c.in-Err-load_rules.ensures.no_text told; misshapen = c.in-Err-load_rules.ensures.misshapen told; broken = c.in-Err-load_rules.ensures.broken told; loaded = c.in-Err-load_rules.ensures.loaded told }))
+    (found_kept (c.in-Ok.ensures.same told) c.in-Ok.tess (name_of c.args.rules) (Err c.in-Err-find_rules.refusal) (c.in-Err-find_rules.ensures.comes told))
     lt row
 
-pub returns-in-Err-load_rules-clause-serves : goal.returns-in-Err-load_rules-clause-serves
-returns-in-Err-load_rules-clause-serves g c = λ told kinds a k serves.
-    outside_serves kinds a k c.in-Err-load_rules.refusal (served_failed _ c.args.tess.now c.args.kind c.args.rules.now kinds a k (λ (t : List TileKind). t) c.in-Ok.tess (λ (r : TreeRules). r.automaton) c.in-Err-load_rules.refusal
+pub returns-in-Err-find_rules-clause-serves : goal.returns-in-Err-find_rules-clause-serves
+returns-in-Err-find_rules-clause-serves g c = λ told kinds a k serves.
+    outside_serves kinds a k c.in-Err-find_rules.refusal (served_failed _ c.args.tess.now c.args.kind (name_of c.args.rules) kinds a k (λ (t : List TileKind). t) c.in-Ok.tess c.in-Err-find_rules.refusal
     (record { too_long = c.in-Ok.ensures.too_long told; bad_line = c.in-Ok.ensures.bad_line told; bad_kinds = c.in-Ok.ensures.bad_kinds told; loaded = c.in-Ok.ensures.loaded told })
-    (read_kept (c.in-Ok.ensures.same told) c.in-Ok.tess c.args.rules.now (λ (r : TreeRules). r.automaton) (Err c.in-Err-load_rules.refusal)
-    (record { too_long = c.in-Err-load_rules.ensures.too_long told; no_text = c.in-Err-load_rules.ensures.no_text told; misshapen = c.in-Err-load_rules.ensures.misshapen told; broken = c.in-Err-load_rules.ensures.broken told; loaded = c.in-Err-load_rules.ensures.loaded told }))
+    (found_kept (c.in-Ok.ensures.same told) c.in-Ok.tess (name_of c.args.rules) (Err c.in-Err-find_rules.refusal) (c.in-Err-find_rules.ensures.comes told))
     serves)
 
-pub returns-in-Ok-load_rules-clause-due : goal.returns-in-Ok-load_rules-clause-due
-returns-in-Ok-load_rules-clause-due g c = λ told.
+pub returns-in-Ok-find_rules-clause-due : goal.returns-in-Ok-find_rules-clause-due
+returns-in-Ok-find_rules-clause-due g c = λ told.
     let lt : c.args.kind < length c.in-Ok.tess = search rules in
-    subst (λ (ks : List TileKind). ServesFor (g.F.Files.contents c.args.files.now) (RunSession c.args.tess.now c.args.kind c.args.rules.now) ks c.in-Ok-load_rules.rules.automaton c.args.kind) (sym c.in-Ok-load_rules.ensures.kinds) (
+    subst (λ (ks : List TileKind). ServesFor (g.F.Files.contents c.args.files.now) (RunSession c.args.tess.now c.args.kind (name_of c.args.rules)) ks c.in-Ok-find_rules.rules.automaton c.args.kind) (sym c.in-Ok-find_rules.ensures.kinds) (
       c.in-Ok.ensures.ok told,
-      rules_kept (c.in-Ok.ensures.same told) c.in-Ok.tess c.args.rules.now (Loaded c.in-Ok-load_rules.rules.automaton) (c.in-Ok-load_rules.ensures.ok told),
+      rules_kept (c.in-Ok.ensures.same told) c.in-Ok.tess (name_of c.args.rules) (Loaded c.in-Ok-find_rules.rules.automaton) (c.in-Ok-find_rules.ensures.ok told),
       lt,
       refl,
     )
 
-pub returns-in-Ok-load_rules-clause-exact : goal.returns-in-Ok-load_rules-clause-exact
-returns-in-Ok-load_rules-clause-exact g c = λ told answer row.
+pub returns-in-Ok-find_rules-clause-exact : goal.returns-in-Ok-find_rules-clause-exact
+returns-in-Ok-find_rules-clause-exact g c = λ told answer row.
     let lt : c.args.kind < length c.in-Ok.tess = search rules in
-    session_opened _ c.args.tess.now c.args.kind c.args.rules.now (λ (t : List TileKind). t) c.in-Ok.tess (λ (r : TreeRules). r.automaton) c.in-Ok-load_rules.rules
+    session_opened _ c.args.tess.now c.args.kind (name_of c.args.rules) (λ (t : List TileKind). t) c.in-Ok.tess c.in-Ok-find_rules.rules
     (record { too_long = c.in-Ok.ensures.too_long told; bad_line = c.in-Ok.ensures.bad_line told; bad_kinds = c.in-Ok.ensures.bad_kinds told; loaded = c.in-Ok.ensures.loaded told })
-    (read_kept (c.in-Ok.ensures.same told) c.in-Ok.tess c.args.rules.now (λ (r : TreeRules). r.automaton) (Ok c.in-Ok-load_rules.rules)
-    (record { too_long = c.in-Ok-load_rules.ensures.too_long told; no_text = c.in-Ok-load_rules.ensures.no_text told; misshapen = c.in-Ok-load_rules.ensures.misshapen told; broken = c.in-Ok-load_rules.ensures.broken told; loaded = c.in-Ok-load_rules.ensures.loaded told }))
+    (found_kept (c.in-Ok.ensures.same told) c.in-Ok.tess (name_of c.args.rules) (Ok c.in-Ok-find_rules.rules) (c.in-Ok-find_rules.ensures.comes told))
     lt row
 
-pub returns-in-Ok-load_rules-clause-serves : goal.returns-in-Ok-load_rules-clause-serves
-returns-in-Ok-load_rules-clause-serves g c = λ told kinds a k serves.
-    let found = served_opened _ c.args.tess.now c.args.kind c.args.rules.now kinds a k (λ (t : List TileKind). t) c.in-Ok.tess (λ (r : TreeRules). r.automaton) c.in-Ok-load_rules.rules
+pub returns-in-Ok-find_rules-clause-serves : goal.returns-in-Ok-find_rules-clause-serves
+returns-in-Ok-find_rules-clause-serves g c = λ told kinds a k serves.
+    let found = served_opened _ c.args.tess.now c.args.kind (name_of c.args.rules) kinds a k (λ (t : List TileKind). t) c.in-Ok.tess c.in-Ok-find_rules.rules
     (record { too_long = c.in-Ok.ensures.too_long told; bad_line = c.in-Ok.ensures.bad_line told; bad_kinds = c.in-Ok.ensures.bad_kinds told; loaded = c.in-Ok.ensures.loaded told })
-    (read_kept (c.in-Ok.ensures.same told) c.in-Ok.tess c.args.rules.now (λ (r : TreeRules). r.automaton) (Ok c.in-Ok-load_rules.rules)
-    (record { too_long = c.in-Ok-load_rules.ensures.too_long told; no_text = c.in-Ok-load_rules.ensures.no_text told; misshapen = c.in-Ok-load_rules.ensures.misshapen told; broken = c.in-Ok-load_rules.ensures.broken told; loaded = c.in-Ok-load_rules.ensures.loaded told }))
+    (found_kept (c.in-Ok.ensures.same told) c.in-Ok.tess (name_of c.args.rules) (Ok c.in-Ok-find_rules.rules) (c.in-Ok-find_rules.ensures.comes told))
     serves in
-    (c.in-Ok-load_rules.ensures.kinds ∙ found.0, found.1, found.2)
+    (c.in-Ok-find_rules.ensures.kinds ∙ found.0, found.1, found.2)

@@ -5,13 +5,17 @@ use Rattle.walker_cli.specs.declared.answer.Answer.TheVariants.{TypeTold}
 use Rattle.walker_cli.specs.Tasks.{TellType}
 use Rattle.walker_cli.specs.declared.answer.Role.{Role}
 use Rattle.walker_cli.specs.Due.{TypeRow, type_no_tess, type_no_kind, type_told, FetchesFor}
-use Rattle.walker_cli.proofs.Deciding.{refusal_fits, type_unread, type_missing, type_leads}
+use Rattle.walker_cli.proofs.Deciding.{refusal_fits, refused_plain, type_unread, type_missing, type_leads}
 use Rattle.walker_cli.proofs.decide.tell_type.Goals as goal
 
 pub returns-in-Err-clause-due : goal.returns-in-Err-clause-due
 returns-in-Err-clause-due g c = λ told.
     refusal_fits (g.F.Files.contents c.args.files.now) (TellType c.args.tess.now c.args.kind c.args.walk.now) c.in-Err.refusal (λ answer is. (type_no_tess answer (c.in-Err.ensures.refused told answer (ap Err is))))
     (λ role is. subst (λ (r : Role). FetchesFor (g.F.Files.contents c.args.files.now) (TellType c.args.tess.now c.args.kind c.args.walk.now) r) (sym (c.in-Err.ensures.role role (ap Err is))) tt)
+    (λ is. c.in-Err.ensures.no_store (ap Err is))
+
+pub returns-in-Err-clause-no_store : goal.returns-in-Err-clause-no_store
+returns-in-Err-clause-no_store g c = refused_plain c.in-Err.refusal (λ is. c.in-Err.ensures.no_store (ap Err is))
 
 pub returns-in-Err-clause-exact : goal.returns-in-Err-clause-exact
 returns-in-Err-clause-exact g c = λ told answer row.

@@ -1,6 +1,6 @@
 use Rattle.std.proofs.Common.{refl}
 use Rattle.walker_cli.specs.Ending.{no_plan, with_line, with_stream}
-use Rattle.walker_cli.proofs.Plans.{saying_of, cause_of, usage_of, session_of, serves_alone}
+use Rattle.walker_cli.proofs.Plans.{saying_of, cause_of, store_cause_of, said_kept, said_stored, served_accepted, served_kept, usage_of, session_of, serves_alone}
 use Rattle.walker_cli.proofs.run.carry_out_plan.Goals as goal
 
 pub returns-in_default-clause-ends : goal.returns-in_default-clause-ends
@@ -11,6 +11,11 @@ returns-in-Say-clause-ends g c = with_line c.in-Say.saying
     (λ told. saying_of _ c.in-Ok.plan c.in-Say.saying c.in-Say.is
     (record { due = c.in-Ok.ensures.due told; exact = c.in-Ok.ensures.exact told; serves = c.in-Ok.ensures.serves told }))
     (cause_of c.in-Ok.plan c.in-Say.saying _ c.in-Say.is c.in-Ok.ensures.failed)
+    (store_cause_of c.in-Ok.plan c.in-Say.saying _ c.in-Say.is c.in-Ok.ensures.store_failed)
+    (λ told. record {
+      kept = said_kept _ _ c.in-Ok.plan c.in-Say.saying c.in-Say.is (c.in-Ok.ensures.kept told);
+      stored = λ tess out kinds a form makes. said_stored (g.F.Files.contents c.decide.new.files) out a c.in-Ok.plan c.in-Say.saying c.in-Say.is (c.in-Ok.ensures.stored told tess out kinds a form makes);
+    })
     (λ none. usage_of c.in-Ok.plan c.in-Say.saying c.in-Say.is (c.in-Ok.ensures.no_form none))
     c.say.ensures.line
 
@@ -18,5 +23,7 @@ pub returns-in-Serve-clause-ends : goal.returns-in-Serve-clause-ends
 returns-in-Serve-clause-ends g c = with_stream c.in-Serve.rules.kinds c.in-Serve.rules.automaton c.in-Serve.kind
     (λ told. session_of _ c.in-Ok.plan c.in-Serve.rules c.in-Serve.kind c.in-Serve.is
     (record { due = c.in-Ok.ensures.due told; exact = c.in-Ok.ensures.exact told; serves = c.in-Ok.ensures.serves told }))
+    (served_accepted c.in-Ok.plan c.in-Serve.rules c.in-Serve.kind c.in-Serve.is c.in-Ok.ensures.ready)
+    (λ told. served_kept _ _ c.in-Ok.plan c.in-Serve.rules c.in-Serve.kind c.in-Serve.is (c.in-Ok.ensures.kept told))
     (λ unasked. serves_alone c.in-Ok.plan c.in-Serve.rules c.in-Serve.kind c.in-Serve.is (c.in-Ok.ensures.said unasked))
     c.serve_walkers.ensures.ends

@@ -4,10 +4,5 @@ use Rattle.walker_cli.proofs.run.run.Goals as goal
 pub returns-clause-promise : goal.returns-clause-promise
 returns-clause-promise g c =
     promise c.readings.ensures _ c.carry_out_plan.ensures.ends c.carry_out_plan.ensures.read_fault
-    c.carry_out_plan.ensures.write_fault
-    (record {
-      contents = c.carry_out_plan.ensures.contents;
-      stores = c.carry_out_plan.ensures.stores;
-      taken = c.carry_out_plan.ensures.taken;
-      left = c.carry_out_plan.ensures.left;
-    })
+    c.carry_out_plan.ensures.write_fault c.carry_out_plan.ensures.others c.carry_out_plan.ensures.stores
+    c.carry_out_plan.ensures.taken c.carry_out_plan.ensures.left

@@ -3,6 +3,8 @@ use Rattle.std.specs.String.{string_bytes}
 use Rattle.walker_cli.specs.declared.words.WordsFault.TheVariants.{Usage}
 use Rattle.walker_cli.proofs.Lists.{three_words, four_words}
 use Rattle.walker_cli.proofs.Reading.{kind_form, kind_task}
+use Rattle.walker_cli.specs.Forms.{task_of}
+use Rattle.walker_cli.proofs.OneTask.{one_task}
 use Rattle.walker_cli.proofs.words.read_words.Goals as goal
 
 pub returns-in-len3-clause-ok : goal.returns-in-len3-clause-ok
@@ -51,3 +53,11 @@ returns-in-Err-clause-complete c = λ task ask.
     let letters : c.as_str-in-len4-2.result.now ≡ string_bytes c.letters-item.result = search rules in
     let asked = kind_task _ (string_bytes c.tess-item-then-words-lt5.result) c.as_str-in-len4.result.now c.as_str-in-len4-2.result.now (cc (words, form, digits, letters)) task ask in
     c.in-Err.ensures.complete asked.k asked.walk asked.number asked.text
+
+pub returns-in-Some-clause-complete : goal.returns-in-Some-clause-complete
+returns-in-Some-clause-complete c = λ task ask.
+    one_task _ (task_of c.in-Some.form) task c.in-Some.ensures.some ask
+
+pub returns-in-Some-read_learn-clause-complete : goal.returns-in-Some-read_learn-clause-complete
+returns-in-Some-read_learn-clause-complete c = λ task ask.
+    one_task _ (task_of c.in-Some-read_learn.form) task c.in-Some-read_learn.ensures.some ask

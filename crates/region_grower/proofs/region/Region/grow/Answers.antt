@@ -19,7 +19,8 @@ returns-in-Closed-clause-grown c =
     let t = c.advance.new.joins in
     let n = c.self.inside.layers in
     let answer : IsAnswer t n c.args.most Closed = subst (IsAnswer t n c.args.most) c.in-Closed.is c.in_ok-advance.ensures.answer in
-    closed_is (record { table = t; radii = c.advance.new.radii.items; layers = n }) n c.live.result c.live.ensures c.in_ok-advance.ensures.ready answer
+    closed_is c.args.self.now (record { table = t; radii = c.advance.new.radii.items; layers = n }) n c.live.result
+    (ap (λ v. v.layers) c.self.view_is) c.live.ensures c.in_ok-advance.ensures.ready answer
 
 pub returns-in-Layer-clause-grown : goal.returns-in-Layer-clause-grown
 returns-in-Layer-clause-grown c =
