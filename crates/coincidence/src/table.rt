@@ -357,7 +357,8 @@ impl Table {
         requires first { IsSettled self.old.cells.items a }
         requires second { IsSettled self.old.cells.items b }
         ensures shaped { IsShaped self.new }
-        ensures followed { IsFollowed self.old.cells.items self.old.slots.items self.new.cells.items self.new.slots.items }
+        ensures followed { IsFollowed self.old.cells.items self.old.slots.items
+            self.new.cells.items self.new.slots.items }
         ensures quiet { IsQuiet self.new.cells.items self.new.slots.items }
         ensures named { AreNamed self.new.cells.items self.new.slots.items
             (name self.new.cells.items (unpack a))
