@@ -5,7 +5,7 @@ use Rattle.std.specs.Prelude.{Contains}
 use Rattle.std.proofs.lemmas.List.Elements.{Contains-append_left, Contains-append_right, Contains-append_cases}
 use Rattle.tile_model.specs.Tessellations.{TileKind}
 use Rattle.reply_model.specs.declared.Command.{Command}
-use Rattle.reply_model.specs.declared.Command.TheVariants.{New, Go, At, Same, Level, Dist, Path}
+use Rattle.reply_model.specs.declared.Command.TheVariants.{New, Go}
 use Rattle.reply_model.specs.declared.Reply.{Reply}
 use Rattle.reply_model.specs.declared.Reply.TheVariants.{Done}
 use Rattle.reply_model.specs.Histories.{History, AreDue, Exists, letters_for, walk_of}
@@ -15,17 +15,13 @@ use Rattle.reply_laws.specs.Laws.{as_move, moves, asks_at, asks_level, Interleav
 use Rattle.reply_laws.proofs.Alike.{EndsAreKnown}
 use Rattle.reply_laws.proofs.Events.{Event, only_itself}
 use Rattle.reply_laws.proofs.Definite.{IsDefinite, one_reply}
-use Rattle.reply_laws.proofs.Histories.{HaveSameWalks, none_due, due_push, due_alike}
+use Rattle.reply_laws.proofs.Histories.{HaveSameWalks, AsksNoText, none_due, due_push, due_alike}
 
 -- the event alone where its command makes or moves a walker, else nothing
 abbrev kept : Command → Reply → History
 kept (New w) x = (New w, x) ∷ []
 kept (Go w u) x = (Go w u, x) ∷ []
-kept (At w) x = []
-kept (Same w v) x = []
-kept (Level w) x = []
-kept (Dist w v) x = []
-kept (Path w v) x = []
+kept _ x = []
 
 abbrev pruned : History → History
 pruned [] = []
@@ -48,11 +44,7 @@ walk_kept :
     walk_of (kept c x ++ h) w ≡ letters_for w c x ++ walk_of g w
 walk_kept (New v) x h g w e = e
 walk_kept (Go v u) x h g w e = ap (λ l. letters_for w (Go v u) x ++ l) e
-walk_kept (At v) x h g w e = e
-walk_kept (Same v i) x h g w e = e
-walk_kept (Level v) x h g w e = e
-walk_kept (Dist v i) x h g w e = e
-walk_kept (Path v i) x h g w e = e
+walk_kept _ x h g w e = e
 
 walk_pruned : (h : History) (w : ℕ) → walk_of (pruned h) w ≡ walk_of h w
 walk_pruned [] w = refl
@@ -82,42 +74,16 @@ kept_holds :
     Exists (kept c x ++ h) w → Exists ((c, x) ∷ g) w
 kept_holds (New v) x h g w s = follow (New v, x) (New w, Done) h g s
 kept_holds (Go v u) x h g w s = follow (Go v u, x) (New w, Done) h g s
-kept_holds (At v) x h g w s = behind (At v, x) (New w, Done) h g s
-kept_holds (Same v i) x h g w s = behind (Same v i, x) (New w, Done) h g s
-kept_holds (Level v) x h g w s = behind (Level v, x) (New w, Done) h g s
-kept_holds (Dist v i) x h g w s = behind (Dist v i, x) (New w, Done) h g s
-kept_holds (Path v i) x h g w s = behind (Path v i, x) (New w, Done) h g s
-
-not_new_at : (v w : ℕ) → At v ≡ New w → ⊥
-not_new_at v w e = absurd (cc)
-
-not_new_same : (v i w : ℕ) → Same v i ≡ New w → ⊥
-not_new_same v i w e = absurd (cc)
-
-not_new_level : (v w : ℕ) → Level v ≡ New w → ⊥
-not_new_level v w e = absurd (cc)
-
-not_new_dist : (v i w : ℕ) → Dist v i ≡ New w → ⊥
-not_new_dist v i w e = absurd (cc)
-
-not_new_path : (v i w : ℕ) → Path v i ≡ New w → ⊥
-not_new_path v i w e = absurd (cc)
+kept_holds c x h g w s = behind (c, x) (New w, Done) h g s
 
 holds_kept :
     (c : Command) (x : Reply) (h g : History) (w : ℕ) → (Exists h w → Exists g w) →
     Exists ((c, x) ∷ h) w → Exists (kept c x ++ g) w
 holds_kept (New v) x h g w s = follow (New v, x) (New w, Done) h g s
 holds_kept (Go v u) x h g w s = follow (Go v u, x) (New w, Done) h g s
-holds_kept (At v) x h g w s =
-    left_out (At v, x) (New w, Done) h g (λ e. not_new_at v w (ap (λ (e : Event). e.0) e)) s
-holds_kept (Same v i) x h g w s =
-    left_out (Same v i, x) (New w, Done) h g (λ e. not_new_same v i w (ap (λ (e : Event). e.0) e)) s
-holds_kept (Level v) x h g w s =
-    left_out (Level v, x) (New w, Done) h g (λ e. not_new_level v w (ap (λ (e : Event). e.0) e)) s
-holds_kept (Dist v i) x h g w s =
-    left_out (Dist v i, x) (New w, Done) h g (λ e. not_new_dist v i w (ap (λ (e : Event). e.0) e)) s
-holds_kept (Path v i) x h g w s =
-    left_out (Path v i, x) (New w, Done) h g (λ e. not_new_path v i w (ap (λ (e : Event). e.0) e)) s
+holds_kept c x h g w s =
+    left_out (c, x) (New w, Done) h g
+    (λ e. let made : c ≡ New w = ap (λ (f : Event). f.0) e in absurd (cc)) s
 
 pruned_holds : (h : History) (w : ℕ) → Exists (pruned h) w → Exists h w
 pruned_holds [] w x = x
@@ -138,11 +104,7 @@ kept_command :
     commands (kept c x ++ h) ≡ as_move c ++ l
 kept_command (New w) x h l e = ap (λ l. New w ∷ l) e
 kept_command (Go w u) x h l e = ap (λ l. Go w u ∷ l) e
-kept_command (At w) x h l e = e
-kept_command (Same w v) x h l e = e
-kept_command (Level w) x h l e = e
-kept_command (Dist w v) x h l e = e
-kept_command (Path w v) x h l e = e
+kept_command _ x h l e = e
 
 pruned_commands : (h : History) → commands (pruned h) ≡ moves h
 pruned_commands [] = refl
@@ -163,15 +125,13 @@ module _ (kinds : List TileKind) (k : ℕ) (r : Reading) where
   Due = IsReply kinds k r
 
   due_kept :
-      (c : Command) (x : Reply) (h g : History) → AreDue Due g → Due g c x → h ≡ g ++ kept c x →
-      AreDue Due h
-  due_kept (New w) x h g due d e = subst (AreDue Due) (sym e) (due_push Due g (New w) x due d)
-  due_kept (Go w u) x h g due d e = subst (AreDue Due) (sym e) (due_push Due g (Go w u) x due d)
-  due_kept (At w) x h g due d e = subst (AreDue Due) (sym (e ∙ append-nil g)) due
-  due_kept (Same w v) x h g due d e = subst (AreDue Due) (sym (e ∙ append-nil g)) due
-  due_kept (Level w) x h g due d e = subst (AreDue Due) (sym (e ∙ append-nil g)) due
-  due_kept (Dist w v) x h g due d e = subst (AreDue Due) (sym (e ∙ append-nil g)) due
-  due_kept (Path w v) x h g due d e = subst (AreDue Due) (sym (e ∙ append-nil g)) due
+      (c : Command) (x : Reply) (h g : History) → AreDue Due g → (AsksNoText c → Due g c x) →
+      h ≡ g ++ kept c x → AreDue Due h
+  due_kept (New w) x h g due d e =
+      subst (AreDue Due) (sym e) (due_push Due g (New w) x due (d tt))
+  due_kept (Go w u) x h g due d e =
+      subst (AreDue Due) (sym e) (due_push Due g (Go w u) x due (d tt))
+  due_kept _ x h g due d e = subst (AreDue Due) (sym (e ∙ append-nil g)) due
 
   pruned_due :
       (before rest : History) → AreDue Due (before ++ rest) → AreDue Due (pruned before) →
@@ -179,8 +139,8 @@ module _ (kinds : List TileKind) (k : ℕ) (r : Reading) where
   pruned_due before [] due done = subst (AreDue Due) (sym (append-nil (pruned before))) done
   pruned_due before (e ∷ rest) due done =
       let d : Due before e.0 e.1 = due before rest e.0 e.1 refl in
-      let d' : Due (pruned before) e.0 e.1 =
-      due_alike kinds k r before (pruned before) (pruned_same before) d in
+      let d' : AsksNoText e.0 → Due (pruned before) e.0 e.1 =
+      λ asks. due_alike kinds k r before (pruned before) (pruned_same before) asks d in
       let more =
       due_kept e.0 e.1 (pruned (before ++ e ∷ [])) (pruned before) done d'
       (pruned_push before e) in
@@ -219,21 +179,21 @@ module _
         (subst (AreDue (IsReply kinds k r)) split_g dg) (ap other_commands e) in
         ap (λ y. y ∷ h) event ∙ ap (λ l. f ∷ l) rest
 
-    -- so the replies to all that asks of walkers alone are the same
+    -- so the replies to all that asks of no text are the same
     interleaved :
         (h g : History) → AreDue (IsReply kinds k r) h → AreDue (IsReply kinds k r) g →
-        moves h ≡ moves g → {c : Command} {x : Reply} → IsReply kinds k r h c x →
+        moves h ≡ moves g → {c : Command} {x : Reply} → AsksNoText c → IsReply kinds k r h c x →
         IsReply kinds k r g c x
-    interleaved h g dh dg e {c} {x} d =
+    interleaved h g dh dg e {c} {x} asks d =
         let none = none_due (IsReply kinds k r) in
         let same : pruned h ≡ pruned g =
         same_events [] (pruned h) (pruned g) (pruned_due kinds k r [] h dh none)
         (pruned_due kinds k r [] g dg none) (pruned_commands h ∙ e ∙ sym (pruned_commands g)) in
         let there : IsReply kinds k r (pruned h) c x =
-        due_alike kinds k r h (pruned h) (pruned_same h) d in
-        due_alike kinds k r (pruned g) g (same_pruned g)
+        due_alike kinds k r h (pruned h) (pruned_same h) asks d in
+        due_alike kinds k r (pruned g) g (same_pruned g) asks
         (subst (λ l. IsReply kinds k r l c x) same there)
 
     pub interleavings_agree : InterleavingsAgree (IsReply kinds k r)
-    interleavings_agree h g dh dg e c x (asks_at w) d = interleaved h g dh dg e d
-    interleavings_agree h g dh dg e c x (asks_level w) d = interleaved h g dh dg e d
+    interleavings_agree h g dh dg e c x (asks_at w) d = interleaved h g dh dg e tt d
+    interleavings_agree h g dh dg e c x (asks_level w) d = interleaved h g dh dg e tt d

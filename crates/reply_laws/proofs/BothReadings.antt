@@ -1,5 +1,5 @@
 -- What the tree says and what walks say is the same, and it is definite.
-use Rattle.std.proofs.Common.{◌≡◌, ℕ, ◌<◌, ◌↔◌, inl, inr, true, false, Bool, List, length, refl, subst}
+use Rattle.std.proofs.Common.{◌≡◌, ℕ, ◌<◌, ◌↔◌, inl, inr, true, false, Bool, List, [], length, refl, sym, ap, ◌∙◌, subst}
 use Rattle.std.proofs.lemmas.Bool.{both_ways}
 use Rattle.std.specs.Str.{bytes_eq}
 use Rattle.std.proofs.lemmas.Slice.Eq.{bytes_eq-Decides}
@@ -8,16 +8,20 @@ use Rattle.tile_model.specs.Tessellations.{TileKind, IsType}
 use Rattle.tile_model.specs.Validity.{IsValid}
 use Rattle.tile_model.specs.Relation.{AreAtSameTile, IsDistance}
 use Rattle.tile_model.proofs.Types.{walk_type}
+use Rattle.tile_model.specs.TileCounts.{LieAway}
 use Rattle.tile_model.proofs.Distances.{one_distance}
+use Rattle.tile_model.proofs.TileCounts.{one_count}
 use Rattle.tree_model.specs.Automata.{TreeAutomaton}
 use Rattle.tree_model.specs.Conditions.{IsAccepted}
 use Rattle.tree_model.specs.Positions.{Position, root}
+use Rattle.tree_model.proofs.Rings.{one_ring}
 use Rattle.tree_laws.specs.Laws.{HasOnePlace}
-use Rattle.tree_laws.proofs.Together.{walks_one_place, names_tell}
+use Rattle.tree_laws.proofs.Together.{walks_one_place, names_tell, rings_exist}
+use Rattle.tree_laws.proofs.RingTiles.{ring_counts}
 use Rattle.tree_laws.proofs.Levels.{start_type, distance}
 use Rattle.tree_laws.proofs.Walking.{leads_same}
 use Rattle.reply_model.specs.WalkReadings.{IsThePlace, walk_reading}
-use Rattle.reply_model.specs.TreeReadings.{LeadsTo, LeadToOneName, LeadsApart, tree_reading}
+use Rattle.reply_model.specs.TreeReadings.{LeadsTo, LeadToOneName, LeadsApart, RingHasNames, tree_reading}
 use Rattle.reply_model.specs.Ways.{end_type, way_between}
 use Rattle.reply_laws.specs.Laws.{ReadingsAgree, RepliesAgree}
 use Rattle.reply_laws.proofs.Alike.{EndsAreKnown, the_other_way, read_again}
@@ -85,8 +89,30 @@ module _
             record { place = p; led = ((between u w).reached p).0 h; sides = sides }),
       )
 
+      start : IsType kinds (k, 0)
+      start = start_type kinds a valid ok k known
+
+      -- as many tiles lie at a distance as its ring has names
+      pub ring_counted : (d n : ℕ) → RingHasNames kinds a k d n ↔ LieAway kinds (k, 0) d n
+      ring_counted d n = (
+        (λ h.
+            subst (λ m. LieAway kinds (k, 0) d m) h.count
+            (ring_counts kinds a k valid ok known d h.names h.ring)),
+        (λ h.
+            let (names, ring) = rings_exist kinds a k valid ok known d in
+            let away = ring_counts kinds a k valid ok known d names ring in
+            let count = one_count kinds valid (k, 0) start (λ u. IsDistance kinds (k, 0) [] u d)
+            (length names) n away h in
+            record { names = names; ring = ring; count = count }),
+      )
+
       pub readings_agree : ReadingsAgree kinds a k
-      readings_agree = record { places = place_led; tiles = tile_named; distances = apart_led }
+      readings_agree = record {
+        places = place_led;
+        tiles = tile_named;
+        distances = apart_led;
+        sizes = ring_counted;
+      }
 
       pub replies_agree : RepliesAgree kinds a k
       replies_agree h c x = (
@@ -124,6 +150,12 @@ module _
         apart_one =
             λ u w m n l j. one_distance kinds (k, 0) u w m n ((apart_led u w m).0 l)
             ((apart_led u w n).0 j);
+        sizes_some = λ d.
+            let (names, ring) = rings_exist kinds a k valid ok known d in
+            (length names, record { names = names; ring = ring; count = refl });
+        sizes_one =
+            λ d m n h g. sym h.count ∙ ap length (one_ring kinds a k d h.names g.names h.ring g.ring)
+            ∙ g.count;
       }
 
       pub walks_definite : IsDefinite kinds (walk_reading kinds a k)

@@ -7,7 +7,7 @@ use Rattle.tile_model.specs.Tessellations.{TileKind}
 use Rattle.tile_model.specs.Walks.{type_of}
 use Rattle.tree_model.specs.Positions.{Position}
 use Rattle.reply_model.specs.declared.Command.{Command}
-use Rattle.reply_model.specs.declared.Command.TheVariants.{New, Go, At, Same, Level, Dist, Path}
+use Rattle.reply_model.specs.declared.Command.TheVariants.{New, Go, At, Path, Get}
 use Rattle.reply_model.specs.declared.Reply.{Reply}
 use Rattle.reply_model.specs.declared.Reply.TheVariants.{At as AtPlace, Path as Along}
 use Rattle.reply_model.specs.Histories.{History, AreDue, Exists, letters_for, walk_of}
@@ -18,6 +18,10 @@ use Rattle.reply_model.specs.Replies.{new_taken, new_made, go_nobody, go_deep, g
 use Rattle.reply_model.specs.Replies.{at_nobody, at_place, same_nobody, same_tile, other_tile}
 use Rattle.reply_model.specs.Replies.{level_nobody, level_told, dist_nobody, dist_deep, dist_told}
 use Rattle.reply_model.specs.Replies.{path_nobody, path_deep, path_told}
+use Rattle.reply_model.specs.Replies.{put_nobody, put_long, put_written}
+use Rattle.reply_model.specs.Replies.{get_nobody, get_text, get_nothing}
+use Rattle.reply_model.specs.Replies.{ring_far, ring_too_big, ring_too_many, ring_told}
+use Rattle.reply_model.specs.Replies.{count_far, count_too_big, count_told}
 use Rattle.reply_laws.proofs.Events.{Event, exists_front, push_cases}
 
 nobody : {A B C D : Type 0} → (B → A) → (D → C) → (A → ⊥) ⊎ (C → ⊥) → (B → ⊥) ⊎ (D → ⊥)
@@ -50,6 +54,10 @@ pub record HaveSameWalks (h g : History) : Type 0 where
   pub there : (w : ℕ) → Exists h w → Exists g w
   pub back : (w : ℕ) → Exists g w → Exists h w
   pub walks : (w : ℕ) → walk_of h w ≡ walk_of g w
+
+abbrev pub AsksNoText : Command → Type 0
+AsksNoText (Get w) = ⊥
+AsksNoText _ = Unit {0}
 
 module _ (kinds : List TileKind) (k : ℕ) (r : Reading) where
   abbrev Due : History → Command → Reply → Type 0
@@ -101,36 +109,51 @@ module _ (kinds : List TileKind) (k : ℕ) (r : Reading) where
       (sym (s.walks w)) (path_told w v p (s.there w e) (s.there v d)
       (λ f. n (tree_path_alike g h w v (sym (s.walks w)) (sym (s.walks v)) f)) both)
 
+  -- what is asked of walkers and tiles alone, not of texts
   pub due_alike :
-      (h g : History) → HaveSameWalks h g → {c : Command} {x : Reply} → Due h c x → Due g c x
-  due_alike h g s (new_taken w e) = new_taken w (s.there w e)
-  due_alike h g s (new_made w n) = new_made w (λ e. n (s.back w e))
-  due_alike h g s (go_nobody w u n) = go_nobody w u (λ e. n (s.back w e))
-  due_alike h g s (go_deep w u e d) = go_deep w u (s.there w e) (deep_alike h g w u (s.walks w) d)
-  due_alike h g s (go_gone w u e n) =
+      (h g : History) → HaveSameWalks h g → {c : Command} {x : Reply} → AsksNoText c → Due h c x →
+      Due g c x
+  due_alike h g s _ (new_taken w e) = new_taken w (s.there w e)
+  due_alike h g s _ (new_made w n) = new_made w (λ e. n (s.back w e))
+  due_alike h g s _ (go_nobody w u n) = go_nobody w u (λ e. n (s.back w e))
+  due_alike h g s _ (go_deep w u e d) = go_deep w u (s.there w e) (deep_alike h g w u (s.walks w) d)
+  due_alike h g s _ (go_gone w u e n) =
       go_gone w u (s.there w e) (λ d. n (deep_alike g h w u (sym (s.walks w)) d))
-  due_alike h g s (at_nobody w n) = at_nobody w (λ e. n (s.back w e))
-  due_alike h g s (at_place w p e l) = place_alike h g w p (s.walks w) (s.there w e) l
-  due_alike h g s (same_nobody w v n) = same_nobody w v (nobody (s.back w) (s.back v) n)
-  due_alike h g s (same_tile w v e d t) =
+  due_alike h g s _ (at_nobody w n) = at_nobody w (λ e. n (s.back w e))
+  due_alike h g s _ (at_place w p e l) = place_alike h g w p (s.walks w) (s.there w e) l
+  due_alike h g s _ (same_nobody w v n) = same_nobody w v (nobody (s.back w) (s.back v) n)
+  due_alike h g s _ (same_tile w v e d t) =
       same_tile w v (s.there w e) (s.there v d) (together_alike h g w v (s.walks w) (s.walks v) t)
-  due_alike h g s (other_tile w v e d n) =
+  due_alike h g s _ (other_tile w v e d n) =
       other_tile w v (s.there w e) (s.there v d)
       (λ t. n (together_alike g h w v (sym (s.walks w)) (sym (s.walks v)) t))
-  due_alike h g s (level_nobody w n) = level_nobody w (λ e. n (s.back w e))
-  due_alike h g s (level_told w n e a) =
+  due_alike h g s _ (level_nobody w n) = level_nobody w (λ e. n (s.back w e))
+  due_alike h g s _ (level_told w n e a) =
       level_told w n (s.there w e) (subst (λ l. r.AreApart [] l n) (s.walks w) a)
-  due_alike h g s (dist_nobody w v n) = dist_nobody w v (nobody (s.back w) (s.back v) n)
-  due_alike h g s (dist_deep w v e d f) =
+  due_alike h g s _ (dist_nobody w v n) = dist_nobody w v (nobody (s.back w) (s.back v) n)
+  due_alike h g s _ (dist_deep w v e d f) =
       dist_deep w v (s.there w e) (s.there v d) (tree_path_alike h g w v (s.walks w) (s.walks v) f)
-  due_alike h g s (dist_told w v n e d m a) =
+  due_alike h g s _ (dist_told w v n e d m a) =
       dist_told w v n (s.there w e) (s.there v d)
       (λ f. m (tree_path_alike g h w v (sym (s.walks w)) (sym (s.walks v)) f))
       (apart_alike h g w v n (s.walks w) (s.walks v) a)
-  due_alike h g s (path_nobody w v n) = path_nobody w v (nobody (s.back w) (s.back v) n)
-  due_alike h g s (path_deep w v e d f) =
+  due_alike h g s _ (path_nobody w v n) = path_nobody w v (nobody (s.back w) (s.back v) n)
+  due_alike h g s _ (path_deep w v e d f) =
       path_deep w v (s.there w e) (s.there v d) (tree_path_alike h g w v (s.walks w) (s.walks v) f)
-  due_alike h g s (path_told w v p e d m l) = way_alike h g w v p s e d m l
+  due_alike h g s _ (path_told w v p e d m l) = way_alike h g w v p s e d m l
+  due_alike h g s _ (put_nobody w t n) = put_nobody w t (λ e. n (s.back w e))
+  due_alike h g s _ (put_long w t e l) = put_long w t (s.there w e) l
+  due_alike h g s _ (put_written w t e l) = put_written w t (s.there w e) l
+  due_alike h g s asks (get_nobody w n) = absurd asks
+  due_alike h g s asks (get_text w t e l) = absurd asks
+  due_alike h g s asks (get_nothing w e b) = absurd asks
+  due_alike h g s _ (ring_far d l) = ring_far d l
+  due_alike h g s _ (ring_too_big d q l b) = ring_too_big d q l b
+  due_alike h g s _ (ring_too_many d n l c m) = ring_too_many d n l c m
+  due_alike h g s _ (ring_told d n l c m) = ring_told d n l c m
+  due_alike h g s _ (count_far d l) = count_far d l
+  due_alike h g s _ (count_too_big d q l b) = count_too_big d q l b
+  due_alike h g s _ (count_told d n l c) = count_told d n l c
 
   -- a reply that is due adds no letters to the walk of a walker that does not exist
   go_letters :
@@ -145,12 +168,7 @@ module _ (kinds : List TileKind) (k : ℕ) (r : Reading) where
       (h : History) (w : ℕ) → (Exists h w → ⊥) → (c : Command) (x : Reply) → Due h c x →
       letters_for w c x ≡ []
   no_letters h w n (Go v u) x d = go_letters h w v u n d
-  no_letters h w n (New v) x d = refl
-  no_letters h w n (At v) x d = refl
-  no_letters h w n (Same v i) x d = refl
-  no_letters h w n (Level v) x d = refl
-  no_letters h w n (Dist v i) x d = refl
-  no_letters h w n (Path v i) x d = refl
+  no_letters h w n _ x d = refl
 
   unborn_behind :
       (before rest : History) (w : ℕ) → AreDue Due (before ++ rest) →

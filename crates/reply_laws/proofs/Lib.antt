@@ -1,4 +1,5 @@
 pub mod Events
+pub mod Texts
 pub mod Alike
 pub mod Definite
 pub mod Histories

@@ -2,7 +2,7 @@
 use Rattle.tree_laws.specs.Laws.{OfEachTree}
 use Rattle.reply_model.specs.WalkReadings.{walk_reading, IsWalkReply}
 use Rattle.reply_model.specs.TreeReadings.{tree_reading, IsTreeReply}
-use Rattle.reply_laws.specs.Laws.{HaveOneReply, InterleavingsAgree, ReadingsAgree, RepliesAgree, AnswersTellTiles, AnswersTellRelated}
+use Rattle.reply_laws.specs.Laws.{HaveOneReply, InterleavingsAgree, ReadingsAgree, RepliesAgree, AnswersTellTiles, AnswersTellRelated, RingsListTiles}
 use Rattle.reply_laws.proofs.Definite.{have_one_reply}
 use Rattle.reply_laws.proofs.Between as between
 use Rattle.reply_laws.proofs.BothReadings as both
@@ -13,6 +13,9 @@ answers_tell_tiles = names.answers_tell_tiles
 
 pub answers_tell_related : OfEachTree AnswersTellRelated
 answers_tell_related = names.answers_tell_related
+
+pub rings_list_tiles : OfEachTree RingsListTiles
+rings_list_tiles = names.rings_list_tiles
 
 pub readings_agree : OfEachTree ReadingsAgree
 readings_agree kinds a k valid ok known = both.readings_agree kinds a valid ok k known

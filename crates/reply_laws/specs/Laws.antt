@@ -1,9 +1,10 @@
 -- What the replies come to, of histories and replies alone.
-use Rattle.std.specs.Prelude.{◌≡◌, ◌↔◌, ℕ, ◌<◌, List, [], ◌∷◌, ◌++◌, length}
+use Rattle.std.specs.Prelude.{◌≡◌, ◌↔◌, ℕ, ◌<◌, List, [], ◌∷◌, ◌++◌, length, Contains}
 use Rattle.tile_model.specs.declared.Letter.{Letter}
 use Rattle.tile_model.specs.Tessellations.{TileKind}
-use Rattle.tile_model.specs.Relation.{AreRelated, AreAtSameTile}
+use Rattle.tile_model.specs.Relation.{AreRelated, AreAtSameTile, IsDistance}
 use Rattle.tree_model.specs.Automata.{TreeAutomaton}
+use Rattle.tree_model.specs.Names.{IsRing}
 use Rattle.tree_model.specs.Positions.{Position}
 use Rattle.tree_laws.specs.Laws.{IsShortestWay}
 use Rattle.reply_model.specs.declared.Command.{Command}
@@ -58,6 +59,7 @@ pub record SayTheSame (kinds : List TileKind) (r s : Reading) : Type 0 where
       → r.HasPlace k u p ↔ s.HasPlace k u p
   pub tiles : (u w : List Letter) → r.AreTogether u w ↔ s.AreTogether u w
   pub distances : (u w : List Letter) (n : ℕ) → r.AreApart u w n ↔ s.AreApart u w n
+  pub sizes : (d n : ℕ) → r.LieAway d n ↔ s.LieAway d n
 
 module _ (kinds : List TileKind) (a : TreeAutomaton) (k : ℕ) where
   -- What the tree says and what walks say is the same.
@@ -95,3 +97,12 @@ module _ (kinds : List TileKind) (a : TreeAutomaton) (k : ℕ) where
       (history : History) (w v : ℕ) (way : List Letter)
       → IsWalkReply kinds a k history (Path w v) (Along way)
       → IsShortestWay kinds (k, 0) (walk_of history w) (walk_of history v) way
+
+  -- The names that follow a reply to `ring` are those of the tiles at its distance: the name in a
+  -- reply to `at` is one of ring d exactly where the walk of the walker lies d crossings away.
+  abbrev pub RingsListTiles : Type 0
+  RingsListTiles =
+      (d : ℕ) (names : List (List ℕ)) (history : History) (w : ℕ) (name : List ℕ) (spin kind : ℕ)
+      → IsRing kinds a k d names
+      → IsWalkReply kinds a k history (At w) (AtPlace name spin kind)
+      → Contains names name ↔ IsDistance kinds (k, 0) [] (walk_of history w) d

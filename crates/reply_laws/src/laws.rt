@@ -7,6 +7,7 @@ ghost use Rattle.reply_model.specs.TreeReadings.{IsTreeReply};
 ghost use Rattle.reply_laws.specs.Laws.{HaveOneReply, InterleavingsAgree};
 ghost use Rattle.reply_laws.specs.Laws.{ReadingsAgree, RepliesAgree};
 ghost use Rattle.reply_laws.specs.Laws.{AnswersTellTiles, AnswersTellRelated, PathsAreShortest};
+ghost use Rattle.reply_laws.specs.Laws.{RingsListTiles};
 
 /// What names mean, of the replies themselves.
 /// Two replies to `at`, at whichever moments, have one name exactly where the walks of the two walkers are at the same
@@ -17,8 +18,9 @@ pub fn names()
 {}
 
 /// The replies mean the same over the tree and over walks.
-/// The place of a walk is the position that it leads to, walks are at the same tile where they lead to one name, and
-/// two tiles are as far from each other as a name in the tree of the kind of the first one is long.
+/// The place of a walk is the position that it leads to, walks are at the same tile where they lead to one name, two
+/// tiles are as far from each other as a name in the tree of the kind of the first one is long, and as many tiles lie
+/// at a distance as its ring has names.
 /// So a reply is due by what the tree says exactly where it is due by what walks say.
 pub fn readings()
     ensures words { OfEachTree ReadingsAgree }
@@ -43,4 +45,10 @@ pub fn interleavings()
 /// them has fewer crossings.
 pub fn paths()
     ensures shortest { OfEachTree PathsAreShortest }
+{}
+
+/// The names that follow a reply to `ring` are those of the tiles at its distance, and only those.
+/// The name in a reply to `at` is among them exactly where the walk of the walker lies that many crossings away.
+pub fn rings()
+    ensures list { OfEachTree RingsListTiles }
 {}

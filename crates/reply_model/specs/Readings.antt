@@ -11,3 +11,5 @@ pub record Reading : Type 1 where
   pub AreTogether : List Letter → List Letter → Type 0
   -- the tile of the second walk is that many crossings away from that of the first
   pub AreApart : List Letter → List Letter → ℕ → Type 0
+  -- so many tiles, the second number, lie so many crossings away from the root, the first
+  pub LieAway : ℕ → ℕ → Type 0

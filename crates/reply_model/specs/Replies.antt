@@ -1,20 +1,25 @@
 -- The reply to a command after a history, by a reading of its words.
-use Rattle.std.specs.Prelude.{◌≡◌, ℕ, ◌<◌, ◌⊎◌, List, [], ◌++◌}
+use Rattle.std.specs.Prelude.{◌≡◌, ℕ, ◌<◌, ◌≤◌, ◌⊎◌, List, [], ◌++◌, length}
 use Rattle.tile_model.specs.declared.Letter.{Letter}
 use Rattle.tile_model.specs.Tessellations.{TileKind}
 use Rattle.tile_model.specs.Walks.{type_of}
-use Rattle.tree_model.specs.Limits.{deepest}
+use Rattle.tree_model.specs.Limits.{deepest, most_listed}
 use Rattle.tree_model.specs.Names.{word}
 use Rattle.tree_model.specs.Positions.{Position}
 use Rattle.reply_model.specs.declared.Command.{Command}
 use Rattle.reply_model.specs.declared.Command.TheVariants.{New, Go, At, Same, Level, Dist, Path}
+use Rattle.reply_model.specs.declared.Command.TheVariants.{Put, Get, Ring, Count}
 use Rattle.reply_model.specs.declared.Reply.{Reply}
 use Rattle.reply_model.specs.declared.Reply.TheVariants.{Done, Yes, No, NoWalker, Taken, Deep}
 use Rattle.reply_model.specs.declared.Reply.TheVariants.{At as AtPlace, Level as AtLevel}
 use Rattle.reply_model.specs.declared.Reply.TheVariants.{Dist as Apart, Path as Along}
+use Rattle.reply_model.specs.declared.Reply.TheVariants.{Text, NoText, Tiles, Count as Counted}
+use Rattle.reply_model.specs.declared.Reply.TheVariants.{Long, Far, TooBig, TooMany}
 use Rattle.reply_model.specs.Histories.{History, Exists, walk_of}
 use Rattle.reply_model.specs.Readings.{Reading}
 use Rattle.reply_model.specs.Ways.{end_type, way_between, way_along_name}
+use Rattle.reply_model.specs.Texts.{longest_text, IsLastText, IsBlank}
+use Rattle.reply_model.specs.Sizes.{IsFirstTooBig, AreCounted}
 
 -- The tile of the second walk is too far from that of the first.
 pub record AreFar (reading : Reading) (u w : List Letter) : Type 0 where
@@ -116,3 +121,45 @@ module _ (kinds : List TileKind) (k : ℕ) (reading : Reading) (history : Histor
         → ¬ (TreePathIsFar w v)
         → HasPlaceFrom w v p
         → IsReply (Path w v) (along_name_of w p)
+    put_nobody : (w : ℕ) (text : List ℕ) → ¬ (Exists history w) → IsReply (Put w text) NoWalker
+    put_long :
+        (w : ℕ) (text : List ℕ)
+        → Exists history w
+        → longest_text < length text
+        → IsReply (Put w text) Long
+    put_written :
+        (w : ℕ) (text : List ℕ)
+        → Exists history w
+        → length text ≤ longest_text
+        → IsReply (Put w text) Done
+    get_nobody : (w : ℕ) → ¬ (Exists history w) → IsReply (Get w) NoWalker
+    get_text :
+        (w : ℕ) (text : List ℕ)
+        → Exists history w
+        → IsLastText reading history (walk_of history w) text
+        → IsReply (Get w) (Text text)
+    get_nothing :
+        (w : ℕ)
+        → Exists history w
+        → IsBlank reading history (walk_of history w)
+        → IsReply (Get w) NoText
+    ring_far : (d : ℕ) → deepest < d → IsReply (Ring d) Far
+    ring_too_big :
+        (d r : ℕ) → d ≤ deepest → IsFirstTooBig reading d r → IsReply (Ring d) (TooBig r)
+    ring_too_many :
+        (d n : ℕ)
+        → d ≤ deepest
+        → AreCounted reading d n
+        → most_listed < n
+        → IsReply (Ring d) (TooMany n)
+    ring_told :
+        (d n : ℕ)
+        → d ≤ deepest
+        → AreCounted reading d n
+        → n ≤ most_listed
+        → IsReply (Ring d) (Tiles d n)
+    count_far : (d : ℕ) → deepest < d → IsReply (Count d) Far
+    count_too_big :
+        (d r : ℕ) → d ≤ deepest → IsFirstTooBig reading d r → IsReply (Count d) (TooBig r)
+    count_told :
+        (d n : ℕ) → d ≤ deepest → AreCounted reading d n → IsReply (Count d) (Counted n)

@@ -1,9 +1,11 @@
 -- The replies, read over the tree: the place of a walk is the position that it leads to, letter by
--- letter, and names tell which walks are together and how far apart they are.
+-- letter, and names tell which walks are together, how far apart they are, and how many tiles there
+-- are.
 use Rattle.std.specs.Prelude.{◌≡◌, ℕ, List, length}
 use Rattle.tile_model.specs.declared.Letter.{Letter}
 use Rattle.tile_model.specs.Tessellations.{TileKind}
 use Rattle.tree_model.specs.Automata.{TreeAutomaton}
+use Rattle.tree_model.specs.Names.{IsRing}
 use Rattle.tree_model.specs.Positions.{Position, root, Leads}
 use Rattle.reply_model.specs.declared.Command.{Command}
 use Rattle.reply_model.specs.declared.Reply.{Reply}
@@ -33,11 +35,18 @@ module _ (kinds : List TileKind) (a : TreeAutomaton) where
       pub led : LeadsTo (end_type kinds k u).0 (way_between kinds k u w) place
       pub sides : length place.name ≡ n
 
+    -- ring d has n names
+    pub record RingHasNames (d n : ℕ) : Type 0 where
+      pub names : List (List ℕ)
+      pub ring : IsRing kinds a k d names
+      pub count : length names ≡ n
+
     abbrev pub tree_reading : Reading
     tree_reading = record {
       HasPlace = LeadsTo;
       AreTogether = LeadToOneName;
       AreApart = LeadsApart;
+      LieAway = RingHasNames;
     }
 
     -- the reply, read over the tree

@@ -1,10 +1,12 @@
 -- The replies, read over walks.
 -- The place of a walk is the one position whose word is related to it.
--- Walks are together, or so many crossings apart, by insertions and deletions of loops alone.
+-- Walks are together, or so many crossings apart, by insertions and deletions of loops alone, and
+-- so many tiles lie away from the root as walks tell apart.
 use Rattle.std.specs.Prelude.{◌≡◌, ℕ, List}
 use Rattle.tile_model.specs.declared.Letter.{Letter}
 use Rattle.tile_model.specs.Tessellations.{TileKind}
 use Rattle.tile_model.specs.Relation.{AreAtSameTile, IsDistance}
+use Rattle.tile_model.specs.TileCounts.{LieAway}
 use Rattle.tree_model.specs.Automata.{TreeAutomaton}
 use Rattle.tree_model.specs.Positions.{Position}
 use Rattle.tree_model.specs.Places.{IsPlace}
@@ -26,6 +28,7 @@ walk_reading kinds a k = record {
   HasPlace = IsThePlace kinds a;
   AreTogether = AreAtSameTile kinds (k, 0);
   AreApart = IsDistance kinds (k, 0);
+  LieAway = LieAway kinds (k, 0);
 }
 
 -- the reply, read over walks

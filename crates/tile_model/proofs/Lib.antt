@@ -7,3 +7,5 @@ pub mod Distances
 pub mod WalkTexts
 pub mod Refused
 pub mod OneFault
+pub mod Pigeonhole
+pub mod TileCounts

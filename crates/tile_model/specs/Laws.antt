@@ -1,5 +1,5 @@
 -- What the definitions come to: laws of types, of related walks, of the way back, of walks at the
--- same tile and of distances.
+-- same tile, of distances and of numbers of tiles.
 use Rattle.std.specs.Prelude.{◌≡◌, ℕ, ◌+◌, ◌%◌, ◌≤◌, ◌↔◌, List, [], ◌++◌, replicate}
 use Rattle.tile_model.specs.declared.Letter.{Letter}
 use Rattle.tile_model.specs.declared.Letter.TheVariants.{L}
@@ -7,6 +7,7 @@ use Rattle.tile_model.specs.Tessellations.{TileKind, kind_at, IsType, left, righ
 use Rattle.tile_model.specs.Validity.{IsValid}
 use Rattle.tile_model.specs.Walks.{type_of, crossings, inverse}
 use Rattle.tile_model.specs.Relation.{IsLoop, AreRelated, AreAtSameTile, IsDistance}
+use Rattle.tile_model.specs.TileCounts.{LieAway}
 
 -- Left and right undo each other, and crossing twice leads back.
 pub record AreUndone (kinds : List TileKind) (d : ℕ × ℕ) : Type 0 where
@@ -162,3 +163,9 @@ DistanceHome =
     (kinds : List TileKind) → IsValid kinds → (d : ℕ × ℕ) → IsType kinds d
     → (u w : List Letter) (n : ℕ) → IsDistance kinds d u w n
     ↔ IsDistance kinds (type_of kinds d u) [] (inverse u ++ w) n
+
+-- the tiles at one distance have one number
+abbrev pub OneCount : Type 0
+OneCount =
+    (kinds : List TileKind) → IsValid kinds → (d : ℕ × ℕ) → IsType kinds d
+    → (crossings m n : ℕ) → LieAway kinds d crossings m → LieAway kinds d crossings n → m ≡ n

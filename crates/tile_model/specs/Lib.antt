@@ -4,4 +4,5 @@ pub mod Faults
 pub mod Walks
 pub mod WalkTexts
 pub mod Relation
+pub mod TileCounts
 pub mod Laws

@@ -5,6 +5,7 @@ ghost use Rattle.tile_model.specs.Laws.{MovesUndo, WalksKeepTypes, TurnsAdd, Loo
 ghost use Rattle.tile_model.specs.Laws.{RelatedIsEquivalence, RelatedBehind, RelatedBefore, BeginningsCancel, RelatedHaveOneType};
 ghost use Rattle.tile_model.specs.Laws.{InverseCancels, InverseCancelsBack, InverseLeadsBack, InversesAreRelated, InverseCrosses};
 ghost use Rattle.tile_model.specs.Laws.{SameTileIsEquivalence, RelatedAtSameTile, WayBetween, TurnsStay};
+ghost use Rattle.tile_model.specs.Laws.{OneCount};
 ghost use Rattle.tile_model.specs.Laws.{OneDistance, DistanceOfTiles, DistanceZero, DistanceBack, Triangle, DistanceBehind, DistanceHome};
 
 /// The moves of a tessellation undo each other, walks lead from types to types, and each of the
@@ -56,4 +57,9 @@ pub fn distance_laws()
     ensures triangle { Triangle }
     ensures behind { DistanceBehind }
     ensures home { DistanceHome }
+{}
+
+/// The tiles at one distance have one number.
+pub fn count_laws()
+    ensures one { OneCount }
 {}

@@ -1,6 +1,8 @@
 -- The laws of the tree of accepted rules, put together.
 use Rattle.std.proofs.Common.{ap}
+use Rattle.tree_model.specs.Automata.{root_at}
 use Rattle.tree_model.specs.Positions.{Position, IsPosition, mark_of_rule}
+use Rattle.tree_model.proofs.Rings.{names_below, ring_is}
 use Rattle.tree_laws.specs.Laws.{OfEachTree, LeftSidesAreMatched, RightSidesAreMatched}
 use Rattle.tree_laws.specs.Laws.{AcrossIsOne, AcrossIsBack, AcrossIsPartner, AcrossIsNear, CornersClose}
 use Rattle.tree_laws.specs.Laws.{WalksArrive, WeightStays, WeightFalls, WeightIsBounded}
@@ -8,7 +10,7 @@ use Rattle.tree_laws.specs.Laws.{WalksHaveOnePlace, PlacesTellRelated, NamesTell
 use Rattle.tree_laws.specs.Laws.{PlacesTellTypes, StatesTellKinds, DepthIsDistance}
 use Rattle.tree_laws.specs.Laws.{PlacesTellDistance, DistanceIsDepth, NamesSpellShortestWays}
 use Rattle.tree_laws.specs.Laws.{DistanceOnwards, RingsAreAtDistance, RingsAreWhole}
-use Rattle.tree_laws.specs.Laws.{RingsHavePlaces, NamesAreApart}
+use Rattle.tree_laws.specs.Laws.{RingsHavePlaces, RingsExist, RingsCountTiles, NamesAreApart}
 use Rattle.tree_laws.proofs.TreePlane.{tree_land, plane}
 use Rattle.tree_laws.proofs.Falls.{stays, falls_left, falls_right, bounded_left, bounded_right}
 use Rattle.tree_laws.proofs.Closure.{left_matched, one_right, right_matched, one_left, across, across_same, across_back, across_types, round_corner}
@@ -17,7 +19,7 @@ use Rattle.tree_laws.proofs.Places.{leads_place, place_leads, one_place, place_s
 use Rattle.tree_laws.proofs.Levels.{across_near, level}
 use Rattle.tree_laws.proofs.Shortest.{distance_behind}
 use Rattle.tree_laws.proofs.Between.{distance_by_place, distance_by_name, shortest_way}
-use Rattle.tree_laws.proofs.RingTiles.{ring_distance, distance_ring, ring_whole, ring_apart}
+use Rattle.tree_laws.proofs.RingTiles.{ring_distance, distance_ring, ring_counts, ring_whole, ring_apart}
 
 pub left_sides : OfEachTree LeftSidesAreMatched
 left_sides kinds a k valid ok known = record { some = left_matched kinds a k valid ok known; one = one_right kinds a k valid ok known }
@@ -100,6 +102,12 @@ rings_whole = ring_whole
 
 pub rings_places : OfEachTree RingsHavePlaces
 rings_places = distance_ring
+
+pub rings_exist : OfEachTree RingsExist
+rings_exist kinds a k valid ok known d = (names_below kinds a d (root_at a k), ring_is kinds a k d)
+
+pub rings_count : OfEachTree RingsCountTiles
+rings_count = ring_counts
 
 pub names_apart : OfEachTree NamesAreApart
 names_apart = ring_apart

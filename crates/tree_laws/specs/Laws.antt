@@ -7,6 +7,7 @@ use Rattle.tile_model.specs.Tessellations.{TileKind, cross, valence}
 use Rattle.tile_model.specs.Validity.{IsValid}
 use Rattle.tile_model.specs.Walks.{type_of, crossings, inverse, times}
 use Rattle.tile_model.specs.Relation.{AreRelated, AreAtSameTile, IsDistance}
+use Rattle.tile_model.specs.TileCounts.{LieAway}
 use Rattle.tree_model.specs.declared.Rule.TheVariants.{Left, Right}
 use Rattle.tree_model.specs.Automata.{TreeAutomaton, state_at, offset, rank}
 use Rattle.tree_model.specs.Conditions.{IsAccepted}
@@ -223,6 +224,16 @@ module _ (kinds : List TileKind) (a : TreeAutomaton) (k : ℕ) where
       (d : ℕ) (ring : List (List ℕ)) → IsRing kinds a k d ring →
       (u : List Letter) (p : Position) → IsDistance kinds (k, 0) [] u d → IsPlace kinds a k u p →
       Contains ring p.name
+
+  -- There is a ring d.
+  abbrev pub RingsExist : Type 0
+  RingsExist = (d : ℕ) → (ring : List (List ℕ)) × IsRing kinds a k d ring
+
+  -- Exactly as many tiles lie at distance d as ring d has names.
+  abbrev pub RingsCountTiles : Type 0
+  RingsCountTiles =
+      (d : ℕ) (ring : List (List ℕ)) → IsRing kinds a k d ring →
+      LieAway kinds (k, 0) d (length ring)
 
   -- No two names are one tile.
   abbrev pub NamesAreApart : Type 0

@@ -10,7 +10,7 @@ ghost use Rattle.tree_laws.specs.Laws.{WalksHaveOnePlace, PlacesTellRelated, Nam
 ghost use Rattle.tree_laws.specs.Laws.{PlacesTellTypes, StatesTellKinds, DepthIsDistance};
 ghost use Rattle.tree_laws.specs.Laws.{PlacesTellDistance, DistanceIsDepth, NamesSpellShortestWays};
 ghost use Rattle.tree_laws.specs.Laws.{DistanceOnwards, RingsAreAtDistance, RingsAreWhole};
-ghost use Rattle.tree_laws.specs.Laws.{RingsHavePlaces, NamesAreApart};
+ghost use Rattle.tree_laws.specs.Laws.{RingsHavePlaces, RingsExist, RingsCountTiles, NamesAreApart};
 
 /// Each Left side is matched with exactly one Right side, and each Right side with exactly one Left side.
 pub fn matching()
@@ -61,10 +61,12 @@ pub fn shortest()
 {}
 
 /// Ring d has a name of each tile at distance d from the root, that of its place, and none other, and no two names are
-/// one tile.
+/// one tile. So there are as many such tiles as names in it.
 pub fn rings()
     ensures distance { OfEachTree RingsAreAtDistance }
     ensures whole { OfEachTree RingsAreWhole }
     ensures places { OfEachTree RingsHavePlaces }
+    ensures exist { OfEachTree RingsExist }
+    ensures counts { OfEachTree RingsCountTiles }
     ensures apart { OfEachTree NamesAreApart }
 {}

@@ -6,5 +6,5 @@ pub mod laws;
 mod sides;
 mod spot;
 
-pub use sides::{brackets_fit, next_left, next_right, rule};
+pub use sides::{brackets_fit, left_by, next_left, next_right, right_by, rule};
 pub use spot::Spot;

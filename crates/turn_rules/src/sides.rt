@@ -1,6 +1,6 @@
 //! The sides of a tile in a state: how many there are, which one comes next, and what each is in the tree.
-ghost use Rattle.std.specs.Prelude.{◌≡◌, ◌<◌, ◌≤◌, true, false, length};
-ghost use Rattle.tree_model.specs.Automata.{next, previous, rule_at, side_count as count};
+ghost use Rattle.std.specs.Prelude.{◌≡◌, ◌<◌, ◌≤◌, ◌+◌, ◌%◌, true, false, length};
+ghost use Rattle.tree_model.specs.Automata.{next, previous, rule_at, side_count as count_of};
 ghost use Rattle.spot_laws.specs.Spots.{BracketsAreFew};
 
 use rules_data::{left_side, right_side};
@@ -11,7 +11,7 @@ use tree_model::Rule;
 #[tactic(auto, unfolding(tree_model::specs::Automata::side_count))]
 fn side_count(r: &Rules, state: u32) -> u8
     requires { state < length r.now.automaton.states }
-    ensures value { result ≡ count r.now.kinds r.now.automaton state }
+    ensures value { result ≡ count_of r.now.kinds r.now.automaton state }
     ensures at_least { 3 ≤ result }
     ensures at_most { result ≤ 64 }
 {
@@ -21,7 +21,7 @@ fn side_count(r: &Rules, state: u32) -> u8
 /// The rule of a side of a tile in a state of the rules.
 pub fn rule(r: &Rules, state: u32, side: u8) -> Rule
     requires state { state < length r.now.automaton.states }
-    requires side { side < count r.now.kinds r.now.automaton state }
+    requires side { side < count_of r.now.kinds r.now.automaton state }
     ensures { result ≡ rule_at r.now.automaton state side }
 {
     r.automaton().rule(state, side)
@@ -30,8 +30,8 @@ pub fn rule(r: &Rules, state: u32, side: u8) -> Rule
 /// The side to the left of a side of a tile in a state of the rules.
 pub fn next_left(r: &Rules, state: u32, side: u8) -> u8
     requires state { state < length r.now.automaton.states }
-    requires side { side < count r.now.kinds r.now.automaton state }
-    ensures { result ≡ next (count r.now.kinds r.now.automaton state) side }
+    requires side { side < count_of r.now.kinds r.now.automaton state }
+    ensures { result ≡ next (count_of r.now.kinds r.now.automaton state) side }
 {
     left_side(side_count(r, state), side)
 }
@@ -39,10 +39,40 @@ pub fn next_left(r: &Rules, state: u32, side: u8) -> u8
 /// The side to the right of a side of a tile in a state of the rules.
 pub fn next_right(r: &Rules, state: u32, side: u8) -> u8
     requires state { state < length r.now.automaton.states }
-    requires side { side < count r.now.kinds r.now.automaton state }
-    ensures { result ≡ previous (count r.now.kinds r.now.automaton state) side }
+    requires side { side < count_of r.now.kinds r.now.automaton state }
+    ensures { result ≡ previous (count_of r.now.kinds r.now.automaton state) side }
 {
     right_side(side_count(r, state), side)
+}
+
+/// The side that lies `count` sides to the left of a side of a tile in a state of the rules.
+pub fn left_by(r: &Rules, state: u32, side: u8, count: u8) -> u8
+    requires state { state < length r.now.automaton.states }
+    requires side { side < count_of r.now.kinds r.now.automaton state }
+    ensures { result ≡ (side + count) % count_of r.now.kinds r.now.automaton state }
+{
+    let sides = side_count(r, state) as u16;
+    let mut there = side as u16 + count as u16;
+    while there >= sides {
+        there -= sides;
+    }
+    there as u8
+}
+
+/// The side that lies `count` sides to the right of a side of a tile in a state of the rules: the one from which
+/// `count` sides to the left lead back.
+pub fn right_by(r: &Rules, state: u32, side: u8, count: u8) -> u8
+    requires state { state < length r.now.automaton.states }
+    requires side { side < count_of r.now.kinds r.now.automaton state }
+    ensures below { result < count_of r.now.kinds r.now.automaton state }
+    ensures back { (result + count) % count_of r.now.kinds r.now.automaton state ≡ side }
+{
+    let sides = side_count(r, state) as u16;
+    let mut there = side as u16;
+    while there < count as u16 {
+        there += sides;
+    }
+    (there - count as u16) as u8
 }
 
 /// A counter of open brackets below 2^127 is enough for the walk along the contour, leftwards or rightwards, from a
@@ -50,7 +80,7 @@ pub fn next_right(r: &Rules, state: u32, side: u8) -> u8
 /// The call does nothing but read the tables, which tell this.
 pub fn brackets_fit(r: &Rules, state: u32, side: u8, leftwards: bool)
     requires state { state < length r.now.automaton.states }
-    requires side { side < count r.now.kinds r.now.automaton state }
+    requires side { side < count_of r.now.kinds r.now.automaton state }
     ensures { BracketsAreFew r.now leftwards state side }
 {
     let inner = inner_side(r, state, side, leftwards);
@@ -62,11 +92,11 @@ pub fn brackets_fit(r: &Rules, state: u32, side: u8, leftwards: bool)
 /// The side at whose left end the inner corner of a side lies from which the walk goes leftwards or rightwards.
 fn inner_side(r: &Rules, state: u32, side: u8, leftwards: bool) -> u8
     requires state { state < length r.now.automaton.states }
-    requires side { side < count r.now.kinds r.now.automaton state }
+    requires side { side < count_of r.now.kinds r.now.automaton state }
     ensures left { leftwards ≡ true → result ≡ side }
     ensures right { leftwards ≡ false
-        → result ≡ previous (count r.now.kinds r.now.automaton state) side }
-    ensures below { result < count r.now.kinds r.now.automaton state }
+        → result ≡ previous (count_of r.now.kinds r.now.automaton state) side }
+    ensures below { result < count_of r.now.kinds r.now.automaton state }
 {
     if leftwards {
         side
