@@ -18,7 +18,7 @@ use Rattle.coincidence.specs.Pending.{IsShaped, IsQuiet}
 use Rattle.coincidence.specs.Tables.{JoinTable, origin_at, kind_of, atlas_of, atlas, dart_walk, dart_in, joined_in, walk_to}
 use Rattle.coincidence.specs.Joined.{IsKept, IsTable, HasRenamed}
 use Rattle.coincidence.proofs.Numbers.{zero_or_more, not_zero, divides_on}
-use Rattle.coincidence.proofs.Names.{named, name_live, name_settled, name_name, name_cell}
+use Rattle.coincidence.proofs.Names.{named, name_live, name_settled, name_name, name_cell, name_beside}
 use Rattle.coincidence.proofs.Origins.{dart_type, walk_first}
 use Rattle.coincidence.proofs.Settled.{live_made, taken_some, unpack_pack, named_back}
 use Rattle.coincidence.proofs.Merges.{name_sound}
@@ -181,6 +181,7 @@ module _ (kinds : List TileKind) (origins : List Origin) (t : Table) (kept : IsK
     named = λ d. let h = named t.cells.items kept.shaped.ordered d.0 d.1 in record { live = h.live; below = h.below; earlier = h.earlier };
     name_live = name_live t.cells.items kept.shaped.ordered;
     one_cell = λ c i j. name_cell t.cells.items kept.shaped.ordered c i j;
+    beside = name_beside t.cells.items kept.shaped.ordered;
     walk_type = λ d made. dart_type kinds kept.valid origins kept.kinds_there kept.come d.0 d.1 made;
     related_name = λ d. name_sound here t.cells.items t.slots.items kept.shaped.ordered kept.sound d.0 d.1;
     joined_name = joined_own t kept.shaped kept.quiet;

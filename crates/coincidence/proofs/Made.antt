@@ -274,13 +274,15 @@ module _ (kinds : List TileKind) (origins : List Origin) (t t1 : Table) (kept : 
       one_on there (one_equal there (walk_after c (turn_at t.cells.items c) made')) (one_on there (one_after (kept.sound.turned c live)) (one_equal there (sym (walk_kept c made')))))
       (subst (λ c. HasPeriod there c turn) (sym same_count) (period_of_kind kinds after n over.0 type_new))
 
+  walk_new : walk_to after n ≡ walk_of there near ++ X ∷ replicate over.1 R
+  walk_new = walk_made after earlier_after n (omega (arith, near_made)) (omega (arith, long_after)) ∙ (ap (λ o. walk_on (walk_to after (o.across / 64)) o) (origin_new origins new_origin) ∙ ap (λ x. (walk_to after x.0 ++ replicate x.1 L) ++ X ∷ replicate over.1 R) near_packed)
+
   pub lies_across : LieAcross (atlas_of kinds (origins ++ record { kind = over.0; own = over.1; across = pack near } ∷ [])) (unpack (pack near)) (unpack (pack (length origins, over.1)))
   lies_across =
       let w = walk_of there near in
-      let new_walk : walk_to after n ≡ w ++ X ∷ replicate over.1 R = walk_made after earlier_after n (omega (arith, near_made)) (omega (arith, long_after)) ∙ (ap (λ o. walk_on (walk_to after (o.across / 64)) o) (origin_new origins new_origin) ∙ ap (λ x. (walk_to after x.0 ++ replicate x.1 L) ++ X ∷ replicate over.1 R) near_packed) in
       let rest = replicate over.1 R ++ replicate over.1 L in
       let whole : (w ++ X ∷ replicate over.1 R) ++ replicate over.1 L ≡ (w ++ X ∷ []) ++ rest = append_assoc w (X ∷ replicate over.1 R) (replicate over.1 L) ∙ sym (append_assoc w (X ∷ []) rest) in
-      let here : LieAcross there near (n, over.1) = one_back there (one_on there (one_equal there (ap (λ u. u ++ replicate over.1 L) new_walk ∙ whole)) (record { related = there_and_left kinds (kind_of after 0, 0) (w ++ X ∷ []) over.1 })) in
+      let here : LieAcross there near (n, over.1) = one_back there (one_on there (one_equal there (ap (λ u. u ++ replicate over.1 L) walk_new ∙ whole)) (record { related = there_and_left kinds (kind_of after 0, 0) (w ++ X ∷ []) over.1 })) in
       subst (λ a. LieAcross there a (unpack (pack (n, over.1)))) (sym near_packed) (subst (LieAcross there near) (sym over_packed) here)
 
   -- and then both darts are joined
@@ -351,8 +353,10 @@ module _ (kinds : List TileKind) (origins : List Origin) (t t1 : Table) (kept : 
       kinds = refl;
       number = refl;
       count = long_after;
+      origins = ap₂ (λ (p : ℕ × ℕ) (a : ℕ). origins ++ record { kind = p.0; own = p.1; across = a } ∷ []) (over_is ∙ ap (λ x. cross kinds (type_in kinds origins x)) near_is) (ap pack near_is);
       old_kinds = λ c old. ap (λ (o : Origin). o.kind) (origin_old origins new_origin c old);
       walks = walk_kept;
+      walk = walk_new ∙ (ap (λ u. u ++ X ∷ replicate over.1 R) (walk_after near.0 near.1 near_made) ∙ ap₂ (λ (p : ℕ × ℕ) (i : ℕ). walk_of (atlas_of kinds origins) p ++ X ∷ replicate i R) near_is (ap (λ (o : Origin). o.own) (sym (origin_new origins new_origin))));
       across = ap (λ (o : Origin). (o.kind, o.own)) (origin_new origins new_origin) ∙ (over_is ∙ ap (λ x. cross kinds (type_in kinds origins x)) near_is);
       turns = λ c old. turn_after c ∙ ap (λ (x : Cell). x.turn) (old_cell c old);
       turn = turn_after n ∙ (new_turn ∙ ap (λ (o : Origin). (kind_at kinds o.kind).sides) (sym (origin_new origins new_origin)));

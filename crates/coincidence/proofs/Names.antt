@@ -1,5 +1,6 @@
 -- The dart of a live cell that a dart is.
 use Rattle.std.proofs.Common.{◌≡◌, ℕ, zero, suc, ◌+◌, ◌%◌, ◌<◌, ◌≤◌, cond, nat_eq, List, sym, ap, ap₂, ◌∙◌, subst, inl, inr, arith, mod-lt, mod-eq_of_lt}
+use Rattle.std.proofs.Math.Nat.{mod-add-mod}
 use Rattle.coincidence.specs.declared.table.Cell.{Cell}
 use Rattle.coincidence.specs.Cells.{turn_at, into_at, shift_at, IsLive, IsOrdered, name_within, name}
 use Rattle.coincidence.proofs.Numbers.{zero_or_more, not_zero}
@@ -82,3 +83,15 @@ names_compose cells cells' ordered ordered' respects d =
     (λ c i live. ap (name cells') (name_live cells ordered c i live) ∙ respects.sides c i live)
     (λ c i e h. ap (name cells') (name_renamed cells ordered c i e) ∙ h ∙ ap₂ (λ a b. name cells' (a, i + b)) (sym (respects.into c e)) (sym (respects.shift c e)) ∙ sym (name_renamed cells' ordered' c i (respects.gone c e)))
     d.0 d.1
+
+-- the next side to the left is named as the next side of the name
+pub name_beside : (cells : List Cell) → IsOrdered cells → (c i : ℕ) → name cells (c, i + 1) ≡ name cells ((name cells (c, i)).0, (name cells (c, i)).1 + 1)
+name_beside cells ordered = by_names cells ordered (λ c i. name cells (c, i + 1) ≡ name cells ((name cells (c, i)).0, (name cells (c, i)).1 + 1))
+    (λ c i live.
+    let t = turn_at cells c in
+    let same : (i % t + 1) % t ≡ (i + 1) % t = mod-add-mod i t 1 in
+    name_live cells ordered c (i + 1) live ∙ (ap (λ j. (c, j)) (sym same) ∙ (sym (name_live cells ordered c (i % t + 1) live) ∙ ap (λ p. name cells (p.0, p.1 + 1)) (sym (name_live cells ordered c i live)))))
+    (λ c i gone rest.
+    let s = shift_at cells c in
+    let e : i + 1 + s ≡ i + s + 1 = omega arith in
+    name_renamed cells ordered c (i + 1) gone ∙ (ap (λ j. name cells (into_at cells c, j)) e ∙ (rest ∙ ap (λ p. name cells (p.0, p.1 + 1)) (sym (name_renamed cells ordered c i gone)))))

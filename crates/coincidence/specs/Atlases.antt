@@ -32,8 +32,8 @@ abbrev pub LieAcross : Atlas → ℕ × ℕ → ℕ × ℕ → Type 0
 LieAcross atlas a b = AreOne atlas (walk_of atlas a ++ X ∷ []) (walk_of atlas b)
 
 -- A table tells the truth. Darts that stand in each other's slots lie across from each other. A
--- renamed cell is the earlier one, turned
--- as it says. A live cell is the same when turned by its turn.
+-- renamed cell is the earlier one, turned as it says. A live cell is the same when turned by its
+-- turn.
 pub record IsSound (atlas : Atlas) (cells : List Cell) (slots : List ℕ) : Type 0 where
   pub joined : (n : ℕ) → IsTaken slots n
       → LieAcross atlas (n / 64, n % 64) (slot_at slots n / 64, slot_at slots n % 64)

@@ -35,11 +35,12 @@ abbrev pub IsOrdered : List Cell → Type 0
 IsOrdered cells = (c : ℕ) → turn_at cells c ≡ 0 → into_at cells c < c
 
 -- The dart of a live cell that a side of a cell is, followed from cell to cell so many times at
--- most: sides equal modulo the turn are
--- one dart, named by the least of them.
+-- most: sides equal modulo the turn are one dart, named by the least of them.
 abbrev pub name_within : ℕ → List Cell → ℕ → ℕ → ℕ × ℕ
 name_within zero cells c i = (c, i)
-name_within (suc n) cells c i = if turn_at cells c == 0 then name_within n cells (into_at cells c) (i + shift_at cells c) else (c, i % turn_at cells c)
+name_within (suc n) cells c i = if turn_at cells c == 0
+    then name_within n cells (into_at cells c) (i + shift_at cells c)
+    else (c, i % turn_at cells c)
 
 -- the dart of a live cell that a dart is
 unfoldable pub name : List Cell → ℕ × ℕ → ℕ × ℕ

@@ -21,9 +21,11 @@ pub record HasFallen (cells cells' : List Cell) (c : ℕ) : Type 0 where
   pub was_live : IsLive cells c
   pub divides : turn_at cells c % turn_at cells' c ≡ 0
 
-pub record IsFollowed (cells : List Cell) (slots : List ℕ) (cells' : List Cell) (slots' : List ℕ) : Type 0 where
-  pub names : (d : ℕ × ℕ) → name cells' (name cells d) ≡ name cells' d
-  pub kept : (p q : ℕ × ℕ) → AreNamed cells slots p q
-      → AreNamed cells' slots' (name cells' p) (name cells' q)
-  pub turns : (c : ℕ) → IsLive cells' c → HasFallen cells cells' c
-  pub count : length cells' ≡ length cells
+pub record IsFollowed
+    (cells : List Cell) (slots : List ℕ) (cells' : List Cell) (slots' : List ℕ) : Type 0
+  where
+    pub names : (d : ℕ × ℕ) → name cells' (name cells d) ≡ name cells' d
+    pub kept : (p q : ℕ × ℕ) → AreNamed cells slots p q
+        → AreNamed cells' slots' (name cells' p) (name cells' q)
+    pub turns : (c : ℕ) → IsLive cells' c → HasFallen cells cells' c
+    pub count : length cells' ≡ length cells

@@ -1,11 +1,12 @@
 -- What stands of a table between calls, and how a call changes it.
-use Rattle.std.specs.Prelude.{◌≡◌, ℕ, ◌+◌, ◌%◌, ◌<◌, ◌≤◌, List, [], length, None, Some}
+use Rattle.std.specs.Prelude.{◌≡◌, ℕ, ◌+◌, ◌%◌, ◌<◌, ◌≤◌, List, [], ◌∷◌, ◌++◌, length, replicate, None, Some}
+use Rattle.tile_model.specs.declared.Letter.TheVariants.{X, R}
 use Rattle.tile_model.specs.Tessellations.{TileKind, kind_at, cross}
 use Rattle.tile_model.specs.Validity.{IsValid}
 use Rattle.tile_model.specs.Walks.{type_of}
 use Rattle.coincidence.specs.declared.origin.Origin.{Origin}
 use Rattle.coincidence.specs.declared.table.Table.{Table}
-use Rattle.coincidence.specs.Darts.{unpack}
+use Rattle.coincidence.specs.Darts.{pack, unpack}
 use Rattle.coincidence.specs.Cells.{turn_at, IsLive, live_count, name}
 use Rattle.coincidence.specs.Atlases.{AreOne, IsSound}
 use Rattle.coincidence.specs.Followed.{AreNamed, HasFallen}
@@ -21,7 +22,9 @@ pub record IsKept (kinds : List TileKind) (origins : List Origin) (t : Table) : 
   pub kinds_there : (c : ℕ) → c < length origins → kind_of origins c < length kinds
   pub come : (c : ℕ) → 0 < c → c < length origins → ComesFrom kinds origins c
   pub met : (c : ℕ) → 0 < c → c < length origins
-      → AreNamed t.cells.items t.slots.items (name t.cells.items (unpack (origin_at origins c).across)) (name t.cells.items (c, (origin_at origins c).own))
+      → AreNamed t.cells.items t.slots.items
+      (name t.cells.items (unpack (origin_at origins c).across))
+      (name t.cells.items (c, (origin_at origins c).own))
   pub turns : (c : ℕ) → IsLive t.cells.items c
       → (kind_at kinds (kind_of origins c)).sides % turn_at t.cells.items c ≡ 0
   pub sound : IsSound (atlas_of kinds origins) t.cells.items t.slots.items
@@ -47,6 +50,9 @@ pub record IsTable (t : JoinTable) : Type 0 where
   pub named : (d : ℕ × ℕ) → IsNameOf t d (name t.cells d)
   pub name_live : (c i : ℕ) → IsLive t.cells c → name t.cells (c, i) ≡ (c, i % turn_at t.cells c)
   pub one_cell : (c i j : ℕ) → (name t.cells (c, i)).0 ≡ (name t.cells (c, j)).0
+  pub beside : (c i : ℕ)
+      → name t.cells (c, i + 1)
+      ≡ name t.cells ((name t.cells (c, i)).0, (name t.cells (c, i)).1 + 1)
   pub walk_type : (d : ℕ × ℕ) → d.0 < length t.origins
       → type_of t.kinds (kind_of t.origins 0, 0) (dart_walk t d) ≡ type_at t d
   pub related_name : (d : ℕ × ℕ) → AreOne (atlas t) (dart_walk t d) (dart_walk t (name t.cells d))
@@ -60,9 +66,8 @@ pub record IsTable (t : JoinTable) : Type 0 where
   pub sound : IsSoundTable t
 
 -- How cells were renamed in a call. Where cells come from stays. Names are composed, and while its
--- cell is live a dart keeps its name up
--- to the turn. Darts that were joined are joined, as they are now named. Turns fall to divisors,
--- and no cell comes back to life.
+-- cell is live a dart keeps its name up to the turn. Darts that were joined are joined, as they are
+-- now named. Turns fall to divisors, and no cell comes back to life.
 pub record HasRenamed (t t' : JoinTable) : Type 0 where
   pub kinds : t'.kinds ≡ t.kinds
   pub origins : t'.origins ≡ t.origins
@@ -80,14 +85,30 @@ pub record IsFirst (kinds : List TileKind) (k : ℕ) (t : JoinTable) : Type 0 wh
   pub live : live_count t.cells ≡ 1
   pub unjoined : (d : ℕ × ℕ) → joined_to t d ≡ None
 
--- Cell w was made across a dart. All else stays: the cells before, with their walks and turns, the
--- names of their darts, and their joins.
+-- the type across a dart, as it is named
+abbrev pub type_over : JoinTable → ℕ × ℕ → ℕ × ℕ
+type_over t d = cross t.kinds (type_at t (name t.cells d))
+
+-- where a cell comes from that is made across a dart
+abbrev pub new_origin : JoinTable → ℕ × ℕ → Origin
+new_origin t d = record {
+  kind = (type_over t d).0;
+  own = (type_over t d).1;
+  across = pack (name t.cells d);
+}
+
+-- Cell w was made across a dart: where it comes from is added behind, and its walk is that of the
+-- dart, X, and as many R as its own side has in number. All else stays: the cells before, with
+-- their walks and turns, the names of their darts, and their joins.
 pub record HasMade (t t' : JoinTable) (d : ℕ × ℕ) (w : ℕ) : Type 0 where
   pub kinds : t'.kinds ≡ t.kinds
   pub number : w ≡ length t.origins
   pub count : length t'.origins ≡ length t.origins + 1
+  pub origins : t'.origins ≡ t.origins ++ new_origin t d ∷ []
   pub old_kinds : (c : ℕ) → c < w → kind_of t'.origins c ≡ kind_of t.origins c
   pub walks : (c : ℕ) → c < w → (atlas t').walk_to c ≡ (atlas t).walk_to c
+  pub walk : (atlas t').walk_to w
+      ≡ dart_walk t (name t.cells d) ++ X ∷ replicate (origin_at t'.origins w).own R
   pub across : (kind_of t'.origins w, (origin_at t'.origins w).own)
       ≡ cross t.kinds (type_at t (name t.cells d))
   pub turns : (c : ℕ) → c < w → turn_at t'.cells c ≡ turn_at t.cells c

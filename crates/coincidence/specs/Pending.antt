@@ -72,7 +72,12 @@ work cells = sum_by weight cells
 
 -- A cell with a new turn, and what it became: it is put before the chain, unless it is chained.
 abbrev pub written_cell : Cell → ℕ → ℕ → ℕ → ℕ → Cell
-written_cell x turn into shift head = record { turn = turn; shift = shift; into = into; next = if x.next == nowhere then head else x.next }
+written_cell x turn into shift head = record {
+  turn = turn;
+  shift = shift;
+  into = into;
+  next = if x.next == nowhere then head else x.next;
+}
 
 abbrev pub written_head : Cell → ℕ → ℕ → ℕ
 written_head x cell head = if x.next == nowhere then cell else head

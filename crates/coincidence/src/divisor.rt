@@ -2,7 +2,8 @@
 ghost use Rattle.std.specs.Prelude.{◌≡◌, ◌<◌, ◌≤◌, ◌%◌, ℕ};
 ghost use Rattle.coincidence.specs.Atlases.{Atlas, HasPeriod};
 
-/// The greatest common divisor. A cell that is the same when turned by the one and by the other is so when turned by it.
+/// The greatest common divisor. A cell that is the same when turned by the one and by the other is
+/// so when turned by it.
 pub(crate) fn common_divisor(first: u8, second: u8) -> u8
     requires { 0 < first }
     ensures positive { 0 < result }

@@ -1,4 +1,5 @@
-//! `Joins`: cells of a tessellation, made one by one across darts, and the darts known to be joined.
+//! `Joins`: cells of a tessellation, made one by one across darts, and the darts known to be
+//! joined.
 ghost use Rattle.std.specs.Prelude.{◌≡◌, ℕ, ◌+◌, ◌<◌, ◌≤◌, ◌↔◌, ◌≢◌, length, Option, None, Some, IsTrue, IfOk, IfSome, OnOk, OnErr};
 ghost use Rattle.tile_model.specs.Tessellations.{IsType, cross, sides};
 ghost use Rattle.coincidence.specs.Cells.{IsLive, turn_at, cell_at, live_count, name};
@@ -15,8 +16,9 @@ use tile_kinds::{DartType, Tessellation};
 
 /// A table of cells and of the darts that are joined. It borrows the tessellation.
 ///
-/// Side `i` of a cell of kind `k` has the type `(k, i modulo the repeat)`. The turn of a cell is the number of its sides that are not
-/// known to coincide: sides equal modulo it are one dart, and answers give the least of them.
+/// Side `i` of a cell of kind `k` has the type `(k, i modulo the repeat)`. The turn of a cell is
+/// the number of its sides that are not known to coincide: sides equal modulo it are one dart, and
+/// answers give the least of them.
 #[derive(Debug, Drop)]
 pub struct Joins<'t> {
     tessellation: &'t Tessellation,
@@ -30,7 +32,12 @@ impl<'t> Model for Joins<'t> {
 
     ghost Value = { JoinTable };
 
-    ghost view = { λ j. record { kinds = j.tessellation.now; origins = j.origins.items; cells = j.table.cells.items; slots = j.table.slots.items } };
+    ghost view = { λ j. record {
+      kinds = j.tessellation.now;
+      origins = j.origins.items;
+      cells = j.table.cells.items;
+      slots = j.table.slots.items;
+    } };
 
     ghost invariant = { λ j. IsKept j.tessellation.now j.origins.items j.table };
 }
@@ -58,9 +65,10 @@ impl<'t> Joins<'t> {
         })
     }
 
-    /// Makes a cell across a live dart that is not joined, where fewer than 1,000,000 cells were made. The new cell has the next number.
-    /// The dart is joined to that of its sides whose number is the residue of the partner. All room for later joins is taken here. Out of
-    /// memory nothing changes.
+    /// Makes a cell across a live dart that is not joined, where fewer than 1,000,000 cells were
+    /// made. The new cell has the next number. The dart is joined to that of its sides whose number
+    /// is the residue of the partner. All room for later joins is taken here. Out of memory nothing
+    /// changes.
     pub fn make_across(&mut self, d: Dart) -> Result<u32, AllocError>
         requires live { IsLive self.old.cells d.0 }
         requires not_joined { joined_to self.old d ≡ None }
@@ -160,7 +168,18 @@ impl<'t> Joins<'t> {
         }
     }
 
-    /// The dart that a dart is joined to; None exactly where nothing is joined there. A dart that is not live is joined to none.
+    /// The dart of a live cell that a side of a cell is now. A renamed cell is followed to what it
+    /// became; of sides that are one dart the least is answered.
+    pub fn named(&self, d: Dart) -> Dart
+        requires made { d.0 < length self.now.origins }
+        requires side { d.1 < 64 }
+        ensures { result ≡ name self.now.cells d }
+    {
+        unpacked(self.table.name(d.cell, d.side as u32))
+    }
+
+    /// The dart that a dart is joined to; None exactly where nothing is joined there. A dart that
+    /// is not live is joined to none.
     pub fn joined(&self, d: Dart) -> Option<Dart>
         ensures value { result ≡ joined_to self.now d }
         ensures side { IfSome result (λ e. e.1 < 64) }
@@ -180,10 +199,12 @@ impl<'t> Joins<'t> {
         }
     }
 
-    /// Joins two darts of live cells, and all that follows from it. The walk of the first, followed by X, is to be related to the walk of
-    /// the second; so the type of the second is the partner of that of the first. Where a dart was joined to another one the two cells
-    /// coincide: the later one is renamed, everywhere and at once. Where a cell coincides with itself turned, its turn falls to the
-    /// greatest common divisor. Answers how many cells were renamed. Takes no memory, and can't be refused.
+    /// Joins two darts of live cells, and all that follows from it. The walk of the first, followed
+    /// by X, is to be related to the walk of the second; so the type of the second is the partner
+    /// of that of the first. Where a dart was joined to another one the two cells coincide: the
+    /// later one is renamed, everywhere and at once. Where a cell coincides with itself turned, its
+    /// turn falls to the greatest common divisor. Answers how many cells were renamed. Takes no
+    /// memory, and can't be refused.
     pub fn join(&mut self, a: Dart, b: Dart) -> u32
         requires live { IsLive self.old.cells a.0 }
         requires other_live { IsLive self.old.cells b.0 }

@@ -1,4 +1,5 @@
-//! A growing table of cells and of the darts known to be joined, in which cells that turn out to be one tile are renamed at once.
+//! A growing table of cells and of the darts known to be joined, in which cells that turn out to be
+//! one tile are renamed at once.
 #![tactic(auto)]
 
 mod dart;

@@ -1,8 +1,9 @@
 // The cells, the slots of their darts, and the renaming of cells that coincide.
 //
-// A slot of a side below its cell's turn holds the dart that is joined there. Where a turn falls, or a cell is renamed, the sides past the
-// turn keep what they held, and what they held still holds of the darts that they are now named: it waits there to be joined anew.
-// The cells with such slots are chained through their records, so that nothing else need be kept.
+// A slot of a side below its cell's turn holds the dart that is joined there. Where a turn falls,
+// or a cell is renamed, the sides past the turn keep what they held, and what they held still holds
+// of the darts that they are now named: it waits there to be joined anew. The cells with such slots
+// are chained through their records, so that nothing else need be kept.
 ghost use Rattle.std.specs.Prelude.{◌≡◌, ◌==◌, if◌then◌else◌, ℕ, ◌+◌, ◌-◌, ◌*◌, ◌/◌, ◌%◌, ◌<◌, ◌≤◌, ◌≢◌, length, slice_set, IfNone, IfSome, ◌⊎◌, [], OnOk, OnErr, IsOk};
 ghost use Rattle.coincidence.specs.Darts.{pack, unpack, slot_at, nowhere, IsTaken};
 ghost use Rattle.coincidence.specs.Cells.{name, cell_at, turn_at, IsLive};
@@ -17,8 +18,9 @@ use std::alloc::{AllocError, Global};
 /// The end of the chain of cells.
 pub(crate) const LAST_LINK: u32 = 4_294_967_294;
 
-/// A cell. `turn` is the number of its sides that are not known to coincide, 0 of a cell that was renamed. Side `i` of a renamed cell
-/// became side `i + shift` of the cell `into`. `next` is the next cell of the chain.
+/// A cell. `turn` is the number of its sides that are not known to coincide, 0 of a cell that was
+/// renamed. Side `i` of a renamed cell became side `i + shift` of the cell `into`. `next` is the
+/// next cell of the chain.
 #[derive(Clone, Copy, Debug)]
 pub(crate) struct Cell {
     pub(crate) turn: u8,
@@ -27,7 +29,8 @@ pub(crate) struct Cell {
     pub(crate) next: u32,
 }
 
-/// All cells, a slot for each of 64 sides of each, the first cell of the chain, and the number of live cells.
+/// All cells, a slot for each of 64 sides of each, the first cell of the chain, and the number of
+/// live cells.
 #[derive(Debug, Drop)]
 pub(crate) struct Table {
     pub(crate) cells: Vec<Cell>,
@@ -52,7 +55,8 @@ impl Table {
         }
     }
 
-    /// Adds a live cell with so many sides, of which none is joined. Out of memory the table is as it was.
+    /// Adds a live cell with so many sides, of which none is joined. Out of memory the table is as
+    /// it was.
     pub(crate) fn extend(&mut self, turn: u8) -> Result<(), AllocError>
         requires { self.old.live < 1000000 }
         ensures extended { OnOk result (IsExtended self.old self.new turn) }
@@ -227,7 +231,8 @@ impl Table {
         self.slots[b as usize] = a;
     }
 
-    /// Joins two darts of live cells. Where one of them was joined to a dart, that dart and the other one are made one.
+    /// Joins two darts of live cells. Where one of them was joined to a dart, that dart and the
+    /// other one are made one.
     fn step(&mut self, a: u32, b: u32)
         requires shaped { IsShaped self.old }
         requires first { IsSettled self.old.cells.items a }
@@ -271,13 +276,15 @@ impl Table {
         self.slots[over as usize] = NOWHERE;
     }
 
-    /// Joins anew what waits in a slot past its cell's turn, under the names that both darts have now.
+    /// Joins anew what waits in a slot past its cell's turn, under the names that both darts have
+    /// now.
     fn join_anew(&mut self, dart: u32, over: u32)
         requires shaped { IsShaped self.old }
         requires pending { IsPending self.old.cells.items self.old.slots.items dart }
         requires over { over ≡ slot_at self.old.slots.items dart }
         ensures settled { HasSettled self.old self.new }
-        ensures covered { AreCovered self.old.cells.items self.old.slots.items (dart / 64) (dart % 64)
+        ensures covered { AreCovered self.old.cells.items self.old.slots.items
+            (dart / 64) (dart % 64)
             → AreCovered self.new.cells.items self.new.slots.items (dart / 64) (dart % 64 + 1) }
     {
         self.clear(dart, over);
@@ -291,7 +298,8 @@ impl Table {
         requires shaped { IsShaped self.old }
         requires made { dart < 64 * length self.old.cells.items }
         ensures settled { HasSettled self.old self.new }
-        ensures covered { AreCovered self.old.cells.items self.old.slots.items (dart / 64) (dart % 64)
+        ensures covered { AreCovered self.old.cells.items self.old.slots.items
+            (dart / 64) (dart % 64)
             → AreCovered self.new.cells.items self.new.slots.items (dart / 64) (dart % 64 + 1) }
     {
         let over = self.slots[dart as usize];

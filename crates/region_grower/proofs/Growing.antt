@@ -1,4 +1,4 @@
--- What is near by its radius is near, and cells that are made leave darts and radii.
+-- What is near by its radius is near, and what an answer says of a region.
 use Rattle.std.proofs.Common.{◌≡◌, ℕ, zero, suc, ◌+◌, ◌<◌, ◌≤◌, List, length, slice_index, refl, sym, ap, ◌∙◌, subst, inl, inr, arith}
 use Rattle.std.proofs.lemmas.Bool.{cases_lt}
 use Rattle.coincidence.specs.Cells.{turn_at, IsLive, live_count, name}
@@ -6,7 +6,7 @@ use Rattle.coincidence.specs.Tables.{JoinTable, kind_of}
 use Rattle.coincidence.specs.Joined.{IsTable}
 use Rattle.region_grower.specs.Tiles.{HasTiles}
 use Rattle.region_grower.specs.Ways.{IsWay, IsWithin, AllWithin, IsDart, HasOpen, IsJoined, AllJoined}
-use Rattle.region_grower.specs.Regions.{total, AreRadii, HasMadeOn, HasClosedOn, RegionState, IsLayer, IsFull, IsClosedRegion, IsRegion}
+use Rattle.region_grower.specs.Regions.{total, AreRadii, RegionState, IsLayer, IsFull, IsClosedRegion, IsRegionFrom}
 use Rattle.region_grower.specs.Answers.{IsOpenDart, AreInnerJoined, IsAnswer, IsReady}
 use Rattle.region_grower.specs.declared.growth.Answer.{Answer}
 use Rattle.region_grower.specs.declared.growth.Answer.TheVariants.{Closed, Layer, Full, Open}
@@ -51,23 +51,9 @@ sides_joined t table c live joined i =
     let h = joined (name t.cells (c, i)) (named_dart t table (c, i)) (ap (λ p. p.0) named) in
     record { over = h.over; joined = sym (unnamed t table (c, i) live) ∙ h.joined }
 
-module _ (t t' : JoinTable) (n : ℕ) (table : IsTable t) (made : HasMadeOn t t' n) where
-  pub still_dart : (c i : ℕ) → IsDart t (c, i) → IsDart t' (c, i)
-  still_dart c i is_dart =
-      let there = table.live_made c is_dart.live in
-      let same = made.turns c there in
-      record { live = subst (λ x. 0 < x) (sym same) is_dart.live; below = subst (λ x. i < x) (sym same) is_dart.below }
-
-  pub was_live : (c : ℕ) → c < length t.origins → IsLive t'.cells c → IsLive t.cells c
-  was_live c there live = subst (λ x. 0 < x) (made.turns c there) live
-
--- the bound on the distances stays where cells are renamed
-pub bound_renamed : (t t' : JoinTable) (n : ℕ) → HasClosedOn t t' → AllWithin t n → AllWithin t' n
-bound_renamed t t' n closed all c live = closed.within n c live (all c (closed.live c live))
-
 -- the three answers
-pub layer_is : (before after : RegionState) (n : ℕ) → n ≡ before.layers → after.layers ≡ n + 1 → IsReady after.table after.radii n → ((c : ℕ) × HasOpen after.table c) → AreInnerJoined after.table n → IsLayer before after (n + 1)
-layer_is before after n same layers ready opened inner = record {
+pub layer_is : (before after : RegionState) (n whole : ℕ) → n ≡ before.layers → after.layers ≡ n + 1 → IsReady after.table after.radii n whole → ((c : ℕ) × HasOpen after.table c) → AreInnerJoined after.table n → IsLayer before after (n + 1)
+layer_is before after n whole same layers ready opened inner = record {
   number = ap (λ x. x + 1) same;
   below = layer_below after.table ready.table after.radii ready.measured n inner opened.0 opened.1;
   layers = layers;
@@ -77,8 +63,8 @@ layer_is before after n same layers ready opened inner = record {
   within = subst (λ x. AllWithin after.table (x + 1)) same ready.within;
 }
 
-pub full_is : (before after : RegionState) (n most : ℕ) → n ≡ before.layers → after.layers ≡ before.layers → IsReady after.table after.radii n → (d : ℕ × ℕ) → IsOpenDart after.table n d → length after.table.origins ≡ most → IsFull before after most most
-full_is before after n most same layers ready d opened made = record {
+pub full_is : (before after : RegionState) (n whole most : ℕ) → n ≡ before.layers → after.layers ≡ before.layers → IsReady after.table after.radii n whole → (d : ℕ × ℕ) → IsOpenDart after.table n d → length after.table.origins ≡ most → IsFull before after most most
+full_is before after n whole most same layers ready d opened made = record {
   number = refl;
   made = made;
   near = record { cell = d.0; live = opened.dart.live; within = subst (λ x. IsWithin after.table x d.0) same opened.near; opened = record { side = d.1; is_dart = opened.dart; unjoined = opened.unjoined } };
@@ -87,8 +73,8 @@ full_is before after n most same layers ready d opened made = record {
   within = subst (λ x. AllWithin after.table (x + 1)) same ready.within;
 }
 
-pub closed_is : (before after : RegionState) (n m : ℕ) → after.layers ≡ before.layers → m ≡ live_count after.table.cells → IsReady after.table after.radii n → ((d : ℕ × ℕ) → IsDart after.table d → IsJoined after.table d) → IsClosedRegion before after m
-closed_is before after n m layers count ready joined = record {
+pub closed_is : (before after : RegionState) (n whole m : ℕ) → after.layers ≡ before.layers → m ≡ live_count after.table.cells → IsReady after.table after.radii n whole → ((d : ℕ × ℕ) → IsDart after.table d → IsJoined after.table d) → IsClosedRegion before after m
+closed_is before after n whole m layers count ready joined = record {
   layers = layers;
   number = count;
   joined = λ c live. sides_joined after.table ready.table c live (λ d is_dart _. joined d is_dart);
@@ -96,13 +82,17 @@ closed_is before after n m layers count ready joined = record {
   tiles = subst (HasTiles after.table.kinds (kind_of after.table.origins 0, 0)) (sym count) (closed_tiles after.table ready.table joined ready.corners);
 }
 
-pub region_is : (after : RegionState) (n layers : ℕ) → layers ≡ after.layers → n ≤ layers → layers < 1000000 → IsReady after.table after.radii n → IsRegion after
-region_is after n layers same le few ready = record {
-  table = ready.table;
-  long = ready.long;
-  radii = ready.measured;
-  within = λ c live. let h = ready.within c live in record { crossings = h.crossings; at_most = omega (arith, h.at_most, le, same); way = h.way };
-  few = omega (arith, few, same);
+pub region_is : (after : RegionState) (n layers whole : ℕ) → layers ≡ after.layers → n ≤ layers → layers < 1000000 → IsReady after.table after.radii n whole → IsRegionFrom after whole
+region_is after n layers whole same le few ready = record {
+  region = record {
+    table = ready.table;
+    long = ready.long;
+    radii = ready.measured;
+    corners = ready.corners;
+    within = λ c live. let h = ready.within c live in record { crossings = h.crossings; at_most = omega (arith, h.at_most, le, same); way = h.way };
+    few = omega (arith, few, same);
+  };
+  whole = ready.whole_corners;
 }
 
 -- an answer that is none of the others is that no more cells may be made
@@ -122,8 +112,12 @@ one_at_most n = elim (zero_or_more n) [
   | inr some ↦ omega (arith, one_if_some n some)
 ]
 
--- there are no more live cells than a million
+-- there are no more live cells than were made, and than a million
+pub live_made_at_most : (t : JoinTable) → IsTable t → live_count t.cells ≤ length t.origins
+live_made_at_most t table =
+    let less = total_le (length t.cells) (λ c. one_if (turn_at t.cells c)) (λ _. 1) (λ c _. one_at_most (turn_at t.cells c)) in
+    omega (arith, less, live_total t.cells, total_ones (length t.cells), table.count)
+
 pub live_few : (t : JoinTable) → IsTable t → live_count t.cells ≤ 1000000
 live_few t table =
-    let less = total_le (length t.cells) (λ c. one_if (turn_at t.cells c)) (λ _. 1) (λ c _. one_at_most (turn_at t.cells c)) in
-    omega (arith, less, live_total t.cells, total_ones (length t.cells), table.count, table.few)
+    omega (arith, live_made_at_most t table, table.few)

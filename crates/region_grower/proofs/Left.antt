@@ -9,7 +9,8 @@ use Rattle.tile_model.specs.Tessellations.{kind_at}
 use Rattle.coincidence.specs.Joined.{IsTable, HasRenamed}
 use Rattle.region_grower.specs.Ways.{IsDart}
 use Rattle.region_grower.specs.Regions.{total, left_of_join, left_at, unfinished, HasClosedOn}
-use Rattle.region_grower.proofs.Ways.{dart_name, named_dart, over_dart, within_renamed}
+use Rattle.region_grower.proofs.Ways.{dart_name, named_dart, over_dart}
+use Rattle.region_grower.proofs.Steps.{grown_same, grown_on, grown_renamed}
 
 pub total_none : (f : ℕ → ℕ) → total 0 f ≡ 0
 unfolding total
@@ -163,22 +164,14 @@ module _ (t t' : JoinTable) (table : IsTable t) (table' : IsTable t') (renamed :
       less_joined x b (named_dart t table a) dart_b (λ is. not_yet (sym at ∙ is)) after (joined_to t x) refl
 
   pub closed_on : HasClosedOn t t'
-  closed_on = record {
-    kinds = renamed.kinds;
-    origins = renamed.origins;
-    live = λ c live. (renamed.turns c live).was_live;
-    within = within_renamed t t' table' renamed;
-    falls = unfinished_le;
-  }
+  closed_on = record { grown = grown_renamed t t' renamed; origins = renamed.origins; falls = unfinished_le }
 
-pub closed_on_same : (t : JoinTable) → HasClosedOn t t
-closed_on_same t = record { kinds = refl; origins = refl; live = λ c live. live; within = λ n c live h. h; falls = omega arith }
+pub closed_on_same : (t : JoinTable) → IsTable t → HasClosedOn t t
+closed_on_same t table = record { grown = grown_same t table; origins = refl; falls = omega arith }
 
-pub closed_on_both : (t t' t'' : JoinTable) → HasClosedOn t t' → HasClosedOn t' t'' → HasClosedOn t t''
-closed_on_both t t' t'' one two = record {
-  kinds = two.kinds ∙ one.kinds;
+pub closed_on_both : (t t' t'' : JoinTable) → IsTable t → HasClosedOn t t' → HasClosedOn t' t'' → HasClosedOn t t''
+closed_on_both t t' t'' table one two = record {
+  grown = grown_on t t' t'' table one.grown two.grown;
   origins = two.origins ∙ one.origins;
-  live = λ c live. one.live c (two.live c live);
-  within = λ n c live h. two.within n c live (one.within n c (two.live c live) h);
   falls = omega (arith, one.falls, two.falls);
 }

@@ -1,4 +1,5 @@
 pub mod Ways
+pub mod Steps
 pub mod Rounds
 pub mod Left
 pub mod Measured
@@ -8,5 +9,8 @@ pub mod Listing
 pub mod Model
 pub mod Tiles
 pub mod Closing
+pub mod Whole
 pub mod Starting
 pub mod Growing
+pub mod Making
+pub mod Level

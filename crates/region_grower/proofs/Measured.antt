@@ -8,11 +8,11 @@ use Rattle.region_grower.specs.Passes.{HasLowered}
 use Rattle.coincidence.specs.Cells.{IsLive, name}
 use Rattle.coincidence.specs.Tables.{JoinTable, joined_to}
 use Rattle.coincidence.specs.Joined.{IsTable}
-use Rattle.region_grower.specs.Ways.{IsWay, starts, crosses}
-use Rattle.region_grower.specs.Regions.{AreRadii, AreReached, IsRelaxed}
+use Rattle.region_grower.specs.Ways.{IsWay, starts, crosses, IsRadius}
+use Rattle.region_grower.specs.Regions.{AreRadii, AreReached, AreNear, IsRelaxed}
 use Rattle.region_grower.proofs.Ways.{zero_or_more, own_cell, way_to, joined_named, over_dart}
 
-module _ (t : JoinTable) (table : IsTable t) (radii : List ℕ) (long : length t.origins ≤ length radii) (first : slice_index radii 0 ≡ 0) (reached : AreReached t radii) (relaxed : (c : ℕ) → IsLive t.cells c → IsRelaxed t radii c) where
+module _ (t : JoinTable) (table : IsTable t) (radii : List ℕ) (long : length t.origins ≤ length radii) (first : slice_index radii 0 ≡ 0) (relaxed : (c : ℕ) → IsLive t.cells c → IsRelaxed t radii c) where
   -- no way is shorter than the radius, and none of a way's cells is far
   below_way : {n c : ℕ} → IsWay t n c → n < 1000000 → slice_index radii c ≤ n
   below_way starts small = omega (arith, first)
@@ -25,21 +25,38 @@ module _ (t : JoinTable) (table : IsTable t) (radii : List ℕ) (long : length t
       let on = subst (λ c. slice_index radii c < 1000000 → slice_index radii e.0 ≤ slice_index radii c + 1) at (relaxed near.0 named.live near.1 named.below e (joined_named t table d e joined)) (omega (arith, rest, small)) in
       omega (arith, rest, on)
 
-  -- each live cell has its radius
-  pub are_radii : AreRadii t radii
-  are_radii c live =
+  -- the radius of a live cell is as small as its number
+  small_radius : (c : ℕ) → IsLive t.cells c → slice_index radii c < 1000000
+  small_radius c live =
       let there = way_to t table c live in
       let made = table.live_made c live in
       let few = table.few in
       let short = there.1 in
       let within = below_way there.2 (omega (arith, short, made, few)) in
-      record {
-        way = reached c (omega (arith, made, long)) (omega (arith, within, short, made, few));
-        least = λ n way. elim (cases_lt n 1000000) [
-          | inl small ↦ below_way way small
-          | inr large ↦ omega (arith, within, short, made, few, large)
-        ];
-      }
+      omega (arith, within, short, made, few)
+
+  -- a way that is as long as the radius is a shortest one
+  exact : (c : ℕ) → IsLive t.cells c → IsWay t (slice_index radii c) c → IsRadius t c (slice_index radii c)
+  exact c live way = record {
+    way = way;
+    least = λ n on. elim (cases_lt n 1000000) [
+      | inl small ↦ below_way on small
+      | inr large ↦ let near = small_radius c live in omega (arith, near, large)
+    ];
+  }
+
+  -- each live cell has its radius
+  pub are_radii : AreReached t radii → AreRadii t radii
+  are_radii reached c live = let made = table.live_made c live in exact c live (reached c (omega (arith, made, long)) (small_radius c live))
+
+  -- so it has where no live cell lies farther away than its radius says
+  pub near_radii : AreNear t radii → AreRadii t radii
+  near_radii near c live =
+      let h = near c live in
+      let small = small_radius c live in
+      let least = below_way h.way (omega (arith, h.at_most, small)) in
+      let e : h.crossings ≡ slice_index radii c = omega (arith, h.at_most, least) in
+      exact c live (subst (λ n. IsWay t n c) e h.way)
 
 -- where all radii but the first are far, what is reached is the first cell
 pub forgotten_reached : (t : JoinTable) (radii : List ℕ) → slice_index radii 0 ≡ 0 → ((c : ℕ) → 0 < c → c < length radii → slice_index radii c ≡ 1000000) → (c : ℕ) → c < length radii → slice_index radii c < 1000000 → IsWay t (slice_index radii c) c

@@ -13,21 +13,21 @@ or_false false b e = (refl, e)
 
 -- nothing was tried, or what was tried changed nothing
 pub passed_none : {D : JoinTable → Type 0} (t : JoinTable) → IsTable t → D t → HasPassed t t false D
-passed_none t table done = record { table = table; moved = closed_on_same t; falls = λ e. absurd (cc (e)); unchanged = λ e. refl; done = λ e. done }
+passed_none t table done = record { table = table; moved = closed_on_same t table; falls = λ e. absurd (cc (e)); unchanged = λ e. refl; done = λ e. done }
 
-pub passed_on : {D E F : JoinTable → Type 0} (t t' t'' : JoinTable) (a b : Bool) → (D t → E t → F t) → HasPassed t t' a D → HasPassed t' t'' b E → HasPassed t t'' (a || b) F
-passed_on {D} {E} {F} t t' t'' true b both one two = record {
+pub passed_on : {D E F : JoinTable → Type 0} (t t' t'' : JoinTable) (a b : Bool) → IsTable t → (D t → E t → F t) → HasPassed t t' a D → HasPassed t' t'' b E → HasPassed t t'' (a || b) F
+passed_on {D} {E} {F} t t' t'' true b table both one two = record {
   table = two.table;
-  moved = closed_on_both t t' t'' one.moved two.moved;
+  moved = closed_on_both t t' t'' table one.moved two.moved;
   falls = λ e. let first = one.falls refl in let second = two.moved.falls in omega (arith, first, second);
   unchanged = λ e. absurd (cc (e));
   done = λ e. absurd (cc (e));
 }
-passed_on {D} {E} {F} t t' t'' false b both one two =
+passed_on {D} {E} {F} t t' t'' false b table both one two =
     let same = one.unchanged refl in
     record {
       table = two.table;
-      moved = closed_on_both t t' t'' one.moved two.moved;
+      moved = closed_on_both t t' t'' table one.moved two.moved;
       falls = λ e. subst (λ x. unfinished t'' < unfinished x) same (two.falls e);
       unchanged = λ e. two.unchanged e ∙ same;
       done = λ e. both (one.done refl) (subst E same (two.done e));

@@ -11,7 +11,8 @@ use Rattle.coincidence.specs.Tables.{JoinTable, dart_walk, kind_of, atlas}
 use Rattle.coincidence.specs.Joined.{IsTable}
 use Rattle.region_grower.specs.Ways.{IsDart, IsJoined}
 use Rattle.region_grower.specs.Corners.{AllClosed}
-use Rattle.region_grower.specs.Tiles.{walk_at, HasTiles}
+use Rattle.tile_model.specs.TileCounts.{walk_at}
+use Rattle.region_grower.specs.Tiles.{HasTiles}
 use Rattle.region_grower.proofs.Ways.{named_dart}
 use Rattle.region_grower.proofs.Left.{divides_le}
 use Rattle.region_grower.proofs.Count.{live_total}
@@ -68,7 +69,8 @@ module _ (t : JoinTable) (table : IsTable t) (joined : (d : ℕ × ℕ) → IsDa
       record {
         walks = walks;
         count = length-map xs cell_walk ∙ n;
-        whole = λ w.
+        of_sort = λ i there. tt;
+        whole = λ w _.
             let tile = some_tile w in
             let made = table.live_made tile.0 tile.1 in
             let found = h.found tile.0 (omega (arith, made, table.count)) tile.1 in

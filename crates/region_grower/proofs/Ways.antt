@@ -1,11 +1,9 @@
--- Ways through joined darts, where cells are renamed and where one is made.
+-- Ways through joined darts, the names of darts, and their joins where a cell is made.
 use Rattle.std.proofs.Common.{◌≡◌, ℕ, zero, suc, ◌/◌, ◌%◌, ◌<◌, ◌≤◌, ◌⊎◌, Some, None, refl, sym, ap, ◌∙◌, subst, inl, inr, arith, mod-eq_of_lt}
-use Rattle.std.proofs.lemmas.Bool.{cases_lt}
 use Rattle.coincidence.specs.Cells.{IsLive, name}
 use Rattle.coincidence.specs.Tables.{JoinTable, joined_to, origin_at}
-use Rattle.coincidence.specs.Joined.{IsTable, HasRenamed, HasMade}
+use Rattle.coincidence.specs.Joined.{IsTable, HasMade}
 use Rattle.region_grower.specs.Ways.{IsWay, starts, crosses, IsWithin, IsDart}
-use Rattle.region_grower.specs.Regions.{HasMadeOn}
 
 pub zero_or_more : (n : ℕ) → (n ≡ 0) ⊎ (0 < n)
 zero_or_more zero = inl refl
@@ -52,60 +50,12 @@ module _ (t : JoinTable) (table : IsTable t) where
 pub within_more : (t : JoinTable) (m n c : ℕ) → m ≤ n → IsWithin t m c → IsWithin t n c
 within_more t m n c le h = record { crossings = h.crossings; at_most = omega (arith, le, h.at_most); way = h.way }
 
--- Renamed: a way leads to what the cell is now.
-module _ (t t' : JoinTable) (table' : IsTable t') (renamed : HasRenamed t t') where
-  pub way_renamed : {n c : ℕ} → IsWay t n c → IsWay t' n (name t'.cells (c, 0)).0
-  way_renamed starts = subst (IsWay t' 0) (sym (own_cell t' table' 0 0 table'.first_live)) starts
-  way_renamed (crosses n d e way joined) =
-      let rest = way_renamed way in
-      let here = subst (IsWay t' n) (table'.one_cell d.0 0 d.1) rest in
-      subst (IsWay t' (suc n)) (table'.one_cell e.0 e.1 0) (crosses n (name t'.cells d) (name t'.cells e) here (renamed.kept d e joined))
-
-  pub within_renamed : (n c : ℕ) → IsLive t'.cells c → IsWithin t n c → IsWithin t' n c
-  within_renamed n c live h = record { crossings = h.crossings; at_most = h.at_most; way = subst (IsWay t' h.crossings) (own_cell t' table' c 0 live) (way_renamed h.way) }
-
 -- A cell is made across a dart that was not joined.
-module _ (t t' : JoinTable) (table : IsTable t) (table' : IsTable t') (d : ℕ × ℕ) (w : ℕ) (made : HasMade t t' d w) (is_dart : IsDart t d) (unjoined : joined_to t d ≡ None) where
-  join_made : (a b : ℕ × ℕ) → joined_to t a ≡ Some b → joined_to t' a ≡ Some b
+module _ (t t' : JoinTable) (table : IsTable t) (d : ℕ × ℕ) (w : ℕ) (made : HasMade t t' d w) (is_dart : IsDart t d) (unjoined : joined_to t d ≡ None) where
+  pub join_made : (a b : ℕ × ℕ) → joined_to t a ≡ Some b → joined_to t' a ≡ Some b
   join_made a b joined =
       let live = (table.joined_name a b joined).0 in
       let there = table.live_made a.0 live in
       made.joins a (omega (arith, there, made.number)) (λ same.
       let at : joined_to t d ≡ Some b = subst (λ x. joined_to t x ≡ Some b) (same ∙ dart_name t table d is_dart) (joined_named t table a b joined) in
       absurd (cc (at, unjoined))) ∙ joined
-
-  pub way_made : {n c : ℕ} → IsWay t n c → IsWay t' n c
-  way_made starts = starts
-  way_made (crosses n a b way joined) = crosses n a b (way_made way) (join_made a b joined)
-
-  pub made_on : (n : ℕ) → IsWithin t n d.0 → HasMadeOn t t' n
-  made_on n near = record {
-    kinds = made.kinds;
-    longer = omega (arith, made.count);
-    start = let some = table.some in made.old_kinds 0 (omega (arith, some, made.number));
-    turns = λ c old. made.turns c (omega (arith, old, made.number));
-    within = λ m c h. record { crossings = h.crossings; at_most = h.at_most; way = way_made h.way };
-    bounded = λ all c live. elim (cases_lt c w) [
-      | inl old ↦
-          let h = all c (subst (λ x. 0 < x) (made.turns c old) live) in
-          record { crossings = h.crossings; at_most = h.at_most; way = way_made h.way }
-      | inr past ↦
-          let there = table'.live_made c live in
-          let e : c ≡ w = omega (arith, past, there, made.count, made.number) in
-          let on = crosses near.crossings d (w, (origin_at t'.origins w).own) (way_made near.way) made.joined in
-          record { crossings = suc near.crossings; at_most = omega (arith, near.at_most); way = subst (IsWay t' (suc near.crossings)) (sym e) on }
-    ];
-  }
-
-pub made_on_same : (t : JoinTable) (n : ℕ) → HasMadeOn t t n
-made_on_same t n = record { kinds = refl; longer = omega arith; start = refl; turns = λ c old. refl; within = λ m c h. h; bounded = λ all. all }
-
-pub made_on_both : (t t' t'' : JoinTable) (n : ℕ) → HasMadeOn t t' n → HasMadeOn t' t'' n → HasMadeOn t t'' n
-made_on_both t t' t'' n one two = record {
-  kinds = two.kinds ∙ one.kinds;
-  longer = omega (arith, one.longer, two.longer);
-  start = two.start ∙ one.start;
-  turns = λ c old. let longer = one.longer in two.turns c (omega (arith, old, longer)) ∙ one.turns c old;
-  within = λ m c h. two.within m c (one.within m c h);
-  bounded = λ all. two.bounded (one.bounded all);
-}

@@ -31,3 +31,8 @@ IsClosed t d = (e : ℕ × ℕ) → rounds (valence_at t d - 1) t d ≡ Some e �
 -- every corner is closed: that of each dart of a live cell
 abbrev pub AllClosed : JoinTable → Type 0
 AllClosed t = (d : ℕ × ℕ) → IsDart t d → IsClosed t d
+
+-- The corner is whole: all tiles round it are there, and LX, repeated as often as the valence says,
+-- leads back.
+abbrev pub IsWhole : JoinTable → ℕ × ℕ → Type 0
+IsWhole t d = rounds (valence_at t d) t d ≡ Some (name t.cells d)

@@ -1,5 +1,6 @@
 pub mod Ways
 pub mod Corners
+pub mod Growth
 pub mod Tiles
 pub mod Regions
 pub mod Passes

@@ -8,6 +8,7 @@ use Rattle.region_grower.specs.declared.region.Grown.TheVariants.{Layer, Full, C
 use Rattle.region_grower.specs.Ways.{IsWay, IsWithin, IsRadius, AllWithin, HasOpen, AllJoined}
 use Rattle.region_grower.specs.Tiles.{HasTiles}
 use Rattle.region_grower.specs.Corners.{AllClosed}
+use Rattle.region_grower.specs.Growth.{HasGrown, AreWhole}
 
 -- a region: its cells and joins, the radius of each cell, and the number of its last layer
 pub record RegionState : Type 0 where
@@ -37,13 +38,10 @@ left_at t c i = if nat_lt i (turn_at t.cells c) then left_of_join (joined_to t (
 abbrev pub unfinished : JoinTable → ℕ
 unfinished t = total (length t.origins) (λ c. total 64 (left_at t c))
 
--- Cells were renamed: those that stay live lie no farther away than before, and there is no more
--- left of the darts.
+-- Cells were renamed, and none was made; there is no more left of the darts.
 pub record HasClosedOn (t t' : JoinTable) : Type 0 where
-  pub kinds : t'.kinds ≡ t.kinds
+  pub grown : HasGrown t t'
   pub origins : t'.origins ≡ t.origins
-  pub live : (c : ℕ) → IsLive t'.cells c → IsLive t.cells c
-  pub within : (n c : ℕ) → IsLive t'.cells c → IsWithin t n c → IsWithin t' n c
   pub falls : unfinished t' ≤ unfinished t
 
 -- Some live cell at a distance of at most n has a dart that is not joined.
@@ -103,20 +101,42 @@ IsRelaxedAt t radii d = (e : ℕ × ℕ) → joined_to t d ≡ Some e → slice_
 abbrev pub IsRelaxed : JoinTable → List ℕ → ℕ → Type 0
 IsRelaxed t radii c = (i : ℕ) → i < turn_at t.cells c → IsRelaxedAt t radii (c, i)
 
--- Cells were made across darts at a distance of at most n: all else stays.
-pub record HasMadeOn (t t' : JoinTable) (n : ℕ) : Type 0 where
-  pub kinds : t'.kinds ≡ t.kinds
-  pub longer : length t.origins ≤ length t'.origins
-  pub start : kind_of t'.origins 0 ≡ kind_of t.origins 0
-  pub turns : (c : ℕ) → c < length t.origins → turn_at t'.cells c ≡ turn_at t.cells c
-  pub within : (m c : ℕ) → IsWithin t m c → IsWithin t' m c
-  pub bounded : AllWithin t (n + 1) → AllWithin t' (n + 1)
+-- every live cell is reached by so many crossings at most as its radius says
+abbrev pub AreNear : JoinTable → List ℕ → Type 0
+AreNear t radii = (c : ℕ) → IsLive t.cells c → IsWithin t (slice_index radii c) c
 
--- What a region keeps between calls: its radii are exact, and no live cell lies farther away than
--- one more than the layers.
+-- What stands while cells are made: no live cell lies farther away than its radius says, nor
+-- farther than n + 1.
+pub record IsGrowing (t : JoinTable) (radii : List ℕ) (n : ℕ) : Type 0 where
+  pub table : IsTable t
+  pub long : length t.origins ≤ length radii
+  pub first : slice_index radii 0 ≡ 0
+  pub near : AreNear t radii
+  pub within : AllWithin t (n + 1)
+
+-- The corners of the cells below n are whole, at least so many cells were renamed, and if no more
+-- were, then across the darts of the cells below n no radius is over one more.
+pub record AreLevel (t : JoinTable) (radii : List ℕ) (n gone : ℕ) : Type 0 where
+  pub whole : AreWhole t n
+  pub no_fewer : live_count t.cells + gone ≤ length t.origins
+  pub relaxed : live_count t.cells + gone ≡ length t.origins → (c : ℕ) → c < n
+      → IsLive t.cells c → IsRelaxed t radii c
+
+-- what is level stays so
+abbrev pub StayLevel : JoinTable → List ℕ → JoinTable → List ℕ → Type 0
+StayLevel t radii t' radii' = (n gone : ℕ) → AreLevel t radii n gone → AreLevel t' radii' n gone
+
+-- What a region keeps between calls: its radii are exact, every corner is closed, and no live cell
+-- lies farther away than one more than the layers.
 pub record IsRegion (r : RegionState) : Type 0 where
   pub table : IsTable r.table
   pub long : length r.table.origins ≤ length r.radii
   pub radii : AreRadii r.table r.radii
+  pub corners : AllClosed r.table
   pub within : AllWithin r.table (r.layers + 1)
   pub few : r.layers < 1000000
+
+-- So it is, and the corners of the cells below n are whole.
+pub record IsRegionFrom (r : RegionState) (n : ℕ) : Type 0 where
+  pub region : IsRegion r
+  pub whole : AreWhole r.table n

@@ -1,7 +1,7 @@
 //! The trial region: a piece of a tessellation that grows layer by layer round a first cell.
 #![tactic(auto)]
 
-mod corners;
+pub mod corners;
 mod growth;
 mod radii;
 mod region;

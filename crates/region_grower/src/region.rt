@@ -2,11 +2,12 @@
 ghost use Rattle.std.specs.Prelude.{◌≡◌, ℕ, ◌+◌, ◌<◌, ◌≤◌, length, IfOk, IfSome, IfNone, OnOk, OnErr, slice_index};
 ghost use Rattle.coincidence.specs.Cells.{IsLive, live_count};
 ghost use Rattle.coincidence.specs.Tables.{kind_of};
-ghost use Rattle.coincidence.specs.Joined.{IsTable};
+ghost use Rattle.coincidence.specs.Joined.{IsTable, IsFirst};
 ghost use Rattle.region_grower.specs.Ways.{IsRadius};
+ghost use Rattle.region_grower.specs.Growth.{HasGrown};
 ghost use Rattle.region_grower.specs.Regions.{RegionState, IsGrown};
 
-use crate::growth::{Answer, advance, settle};
+use crate::growth::{Answer, advance};
 use coincidence::Joins;
 use std::alloc::{AllocError, Global};
 use std::marker::Model;
@@ -23,28 +24,33 @@ pub enum Grown {
     Closed(u32),
 }
 
-/// A region of a tessellation, which it borrows: cells round a first one, and the number of the last layer that was finished.
+/// A region of a tessellation, which it borrows: cells round a first one, and the number of the
+/// last layer that was finished. All tiles round each corner of the cells below `whole` are there,
+/// so they are not looked at again.
 #[derive(Debug, Drop)]
 pub struct Region<'t> {
     joins: Joins<'t>,
     radii: Vec<u32>,
     layers: u32,
+    whole: u32,
 }
 
 impl<'t> Model for Region<'t> {
-    ghost use Rattle.region_grower.specs.Regions.{RegionState, IsRegion};
+    ghost use Rattle.region_grower.specs.Regions.{RegionState, IsRegionFrom};
 
     ghost Value = { RegionState };
 
     ghost view = { λ r. record { table = r.joins; radii = r.radii.items; layers = r.layers } };
 
-    ghost invariant = { λ r. IsRegion (record { table = r.joins; radii = r.radii.items; layers = r.layers }) };
+    ghost invariant = { λ r. IsRegionFrom
+        (record { table = r.joins; radii = r.radii.items; layers = r.layers }) r.whole };
 }
 
 impl<'t> Region<'t> {
     /// The region of one cell, of a kind of the tessellation.
     pub fn start(alloc: Global, t: &'t Tessellation, kind: u8) -> Result<Region<'t>, AllocError>
         requires { kind < length t.now }
+        ensures first { IfOk result (λ r. IsFirst t.now kind r.table) }
         ensures made { IfOk result (λ r. length r.table.origins ≡ 1) }
         ensures kinds { IfOk result (λ r. r.table.kinds ≡ t.now) }
         ensures kind { IfOk result (λ r. kind_of r.table.origins 0 ≡ kind) }
@@ -58,6 +64,7 @@ impl<'t> Region<'t> {
             joins,
             radii,
             layers: 0,
+            whole: 0,
         })
     }
 
@@ -90,9 +97,12 @@ impl<'t> Region<'t> {
         self.joins.live()
     }
 
-    /// The least number of crossings through joined darts from the first cell; None exactly for a cell that is not live.
+    /// The least number of crossings through joined darts from the first cell; None exactly for a
+    /// cell that is not live.
     pub fn radius(&self, cell: u32) -> Option<u32>
         ensures some { IfSome result (λ r. IsRadius self.now.table cell r) }
+        ensures value { IfSome result (λ r. r ≡ slice_index self.now.radii cell) }
+        ensures at_most { IfSome result (λ r. r ≤ 1000000) }
         ensures live { IfSome result (λ _. IsLive self.now.table.cells cell) }
         ensures none { IfNone result (IsLive self.now.table.cells cell → ⊥) }
     {
@@ -103,12 +113,14 @@ impl<'t> Region<'t> {
         }
     }
 
-    /// Makes cells, `most` in all at most, until a layer is finished or the region is closed, and closes the corners. Out of memory the
-    /// region is sound, and may have grown in part.
+    /// Makes cells, `most` in all at most, until a layer is finished or the region is closed, and
+    /// closes the corners. Cells that were there keep where they come from, their names and their
+    /// joins. Out of memory the region is sound, and may have grown in part.
     pub fn grow(&mut self, most: u32) -> Result<Grown, AllocError>
         requires most { most ≤ 1000000 }
         requires made { length self.old.table.origins ≤ most }
         ensures grown { IfOk result (IsGrown self.old self.new most) }
+        ensures kept { HasGrown self.old.table self.new.table }
         ensures kinds { self.new.table.kinds ≡ self.old.table.kinds }
         ensures start { kind_of self.new.table.origins 0 ≡ kind_of self.old.table.origins 0 }
         ensures made { length self.new.table.origins ≤ most }
@@ -116,8 +128,13 @@ impl<'t> Region<'t> {
         ensures table { IsTable self.new.table }
     {
         let within = self.layers;
-        settle(&mut self.joins, &mut self.radii, within);
-        match advance(&mut self.joins, &mut self.radii, within, most)? {
+        match advance(
+            &mut self.joins,
+            &mut self.radii,
+            &mut self.whole,
+            within,
+            most,
+        )? {
             Answer::Closed => Ok(Grown::Closed(self.joins.live())),
             Answer::Layer => {
                 self.layers = within + 1;

@@ -27,7 +27,8 @@ fn regular(alloc: Global, p: u8, q: u8) -> Result<Vec<Kind>, AllocError> {
     Ok(kinds)
 }
 
-// The corners of a regular tessellation cut off: tiles with q sides and with twice p sides, three round each corner.
+// The corners of a regular tessellation cut off: tiles with q sides and with twice p sides, three
+// round each corner.
 fn truncated(alloc: Global, p: u8, q: u8) -> Result<Vec<Kind>, AllocError> {
     let mut kinds = Vec::new(alloc);
     kinds.push(kind(alloc, q, 1, &[(1, 0)], &[3])?)?;
@@ -35,7 +36,8 @@ fn truncated(alloc: Global, p: u8, q: u8) -> Result<Vec<Kind>, AllocError> {
     Ok(kinds)
 }
 
-// Cut off as far as the middles of the sides: tiles with p and with q sides, four round each corner.
+// Cut off as far as the middles of the sides: tiles with p and with q sides, four round each
+// corner.
 fn rectified(alloc: Global, p: u8, q: u8) -> Result<Vec<Kind>, AllocError> {
     let mut kinds = Vec::new(alloc);
     kinds.push(kind(alloc, p, 1, &[(1, 0)], &[4])?)?;
@@ -142,5 +144,28 @@ fn grows_by_layers(rt: HostRuntime) -> Result<(), Fail> {
     assert_eq!(rt; region.layers(), 1);
     assert_eq!(rt; region.radius(7), Some(1));
     assert_eq!(rt; region.radius(8), None);
+    Ok(())
+}
+
+#[test]
+fn makes_no_square_twice(rt: HostRuntime) -> Result<(), Fail> {
+    let alloc = rt.alloc();
+    let Ok(t) = Tessellation::make(regular(alloc, 4, 4)?) else {
+        panic!(rt; "refused");
+    };
+    if t.kinds() == 0 {
+        panic!(rt; "no kind");
+    }
+    let mut region = Region::start(alloc, &t, 0)?;
+    for layer in 1..12u32 {
+        if region.made() > 1_000 {
+            panic!(rt; "too many cells");
+        }
+        assert_eq!(rt; region.grow(1_000)?, Grown::Layer(layer));
+        // the squares of a grid that lie at most so many steps from one of them
+        assert_eq!(rt; region.made(), 2 * layer * (layer + 1) + 1);
+        assert_eq!(rt; region.live(), region.made());
+        assert_eq!(rt; region.radius(region.made() - 1), Some(layer));
+    }
     Ok(())
 }

@@ -1,15 +1,13 @@
--- Cells were made, and the radii of those before stay.
-use Rattle.std.proofs.Common.{◌≡◌, ℕ, ◌<◌, ◌≤◌, length, slice_index, vec_len}
-use Rattle.coincidence.specs.Joined.{IsTable}
-use Rattle.region_grower.specs.Regions.{HasMadeOn}
+-- Cells were made across the sides before this one.
+use Rattle.std.proofs.Common.{◌≤◌, length}
+use Rattle.region_grower.specs.Growth.{HasGrown}
+use Rattle.region_grower.specs.Regions.{IsGrowing, StayLevel}
 use Rattle.region_grower.proofs.growth.make_round.Given as goal
 
 abbrev pub invariant-loop-side : goal.invariant-loop-side
 invariant-loop-side l = record {
-  table : IsTable l.joins;
-  long : length l.joins.origins ≤ vec_len l.radii;
-  longer : vec_len l.fn.radii ≤ vec_len l.radii;
-  made : HasMadeOn l.fn.joins l.joins l.within;
+  growing : IsGrowing l.joins l.radii.items l.within;
+  grown : HasGrown l.fn.joins l.joins;
+  level : StayLevel l.fn.joins l.fn.radii.items l.joins l.radii.items;
   at_most : length l.joins.origins ≤ l.most;
-  radii : (c : ℕ) → c < vec_len l.fn.radii → slice_index l.radii.items c ≡ slice_index l.fn.radii.items c;
 }

@@ -14,5 +14,5 @@ loop-init c = record {
 pub returns : goal.returns
 returns c =
     let h = c.loop.invariant in
-    let exact = are_radii c.args.joins.now c.requires.table c.loop.radii h.long h.first h.reached (c.relax_each.ensures.done c.loop-test.false) in
+    let exact = are_radii c.args.joins.now c.requires.table c.loop.radii h.long h.first (c.relax_each.ensures.done c.loop-test.false) h.reached in
     subst (AreRadii c.args.joins.now) (sym (c.relax_each.ensures.unchanged c.loop-test.false)) exact

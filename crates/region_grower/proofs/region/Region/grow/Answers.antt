@@ -12,14 +12,14 @@ invariant_of-self-in-Layer c =
     let ready = c.in_ok-advance.ensures.ready in
     let answer : IsAnswer t n c.args.most Layer = subst (IsAnswer t n c.args.most) c.in-Layer.is c.in_ok-advance.ensures.answer in
     let below = layer_below t ready.table c.advance.new.radii.items ready.measured n answer.1 answer.0.0 answer.0.1 in
-    region_is (record { table = t; radii = c.advance.new.radii.items; layers = n + 1 }) n (n + 1) refl (omega arith) (let few = live_few t ready.table in omega (arith, below, few)) ready
+    region_is (record { table = t; radii = c.advance.new.radii.items; layers = n + 1 }) n (n + 1) c.advance.new.whole refl (omega arith) (let few = live_few t ready.table in omega (arith, below, few)) ready
 
 pub returns-in-Closed-clause-grown : goal.returns-in-Closed-clause-grown
 returns-in-Closed-clause-grown c =
     let t = c.advance.new.joins in
     let n = c.self.inside.layers in
     let answer : IsAnswer t n c.args.most Closed = subst (IsAnswer t n c.args.most) c.in-Closed.is c.in_ok-advance.ensures.answer in
-    closed_is c.args.self.now (record { table = t; radii = c.advance.new.radii.items; layers = n }) n c.live.result
+    closed_is c.args.self.now (record { table = t; radii = c.advance.new.radii.items; layers = n }) n c.advance.new.whole c.live.result
     (ap (λ v. v.layers) c.self.view_is) c.live.ensures c.in_ok-advance.ensures.ready answer
 
 pub returns-in-Layer-clause-grown : goal.returns-in-Layer-clause-grown
@@ -27,7 +27,7 @@ returns-in-Layer-clause-grown c =
     let t = c.advance.new.joins in
     let n = c.self.inside.layers in
     let answer : IsAnswer t n c.args.most Layer = subst (IsAnswer t n c.args.most) c.in-Layer.is c.in_ok-advance.ensures.answer in
-    layer_is c.args.self.now (record { table = t; radii = c.advance.new.radii.items; layers = n + 1 }) n (ap (λ v. v.layers) c.self.view_is) refl c.in_ok-advance.ensures.ready answer.0 answer.1
+    layer_is c.args.self.now (record { table = t; radii = c.advance.new.radii.items; layers = n + 1 }) n c.advance.new.whole (ap (λ v. v.layers) c.self.view_is) refl c.in_ok-advance.ensures.ready answer.0 answer.1
 
 pub returns-in_default-clause-grown : goal.returns-in_default-clause-grown
 returns-in_default-clause-grown c =
@@ -35,4 +35,4 @@ returns-in_default-clause-grown c =
     let n = c.self.inside.layers in
     let same = ap (λ v. v.layers) c.self.view_is in
     let answer : IsAnswer t n c.args.most Full = full_answer t n c.args.most c.in_ok-advance.field-0 c.in_default.not-Closed c.in_default.not-Layer c.in_ok-advance.ensures.done c.in_ok-advance.ensures.answer in
-    full_is c.args.self.now (record { table = t; radii = c.advance.new.radii.items; layers = n }) n c.args.most same same c.in_ok-advance.ensures.ready answer.0.0 answer.0.1 answer.1
+    full_is c.args.self.now (record { table = t; radii = c.advance.new.radii.items; layers = n }) n c.advance.new.whole c.args.most same same c.in_ok-advance.ensures.ready answer.0.0 answer.0.1 answer.1
