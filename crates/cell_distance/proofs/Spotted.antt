@@ -1,14 +1,14 @@
 -- Ways between two spots of one tree, and what they tell of all walks after which the spots stand.
-use Rattle.std.proofs.Common.{◌≡◌, ℕ, ◌<◌, ◌≤◌, inr, List, [], ◌∷◌, ◌++◌, length, take, drop, replicate, refl, sym, ap, ap₂, ◌∙◌, subst, append_assoc, take-append-drop, arith}
+use Rattle.std.proofs.Common.{◌≡◌, ℕ, ◌-◌, ◌<◌, ◌≤◌, inr, List, [], ◌∷◌, ◌++◌, length, take, drop, replicate, refl, sym, ap, ap₂, ◌∙◌, subst, append_assoc, take-append-drop, arith}
 use Rattle.tile_model.specs.declared.Letter.{Letter}
-use Rattle.tile_model.specs.declared.Letter.TheVariants.{L, R, X}
+use Rattle.tile_model.specs.declared.Letter.TheVariants.{L, X}
 use Rattle.tile_model.specs.Tessellations.{TileKind, IsType}
 use Rattle.tile_model.specs.Validity.{IsValid}
-use Rattle.tile_model.specs.Walks.{type_of, crossings, inverse}
+use Rattle.tile_model.specs.Walks.{type_of, inverse}
 use Rattle.tile_model.specs.Relation.{AreRelated, AreAtSameTile, IsDistance}
 use Rattle.tile_model.proofs.Types.{walk_type}
-use Rattle.tile_model.proofs.Relations.{related_type, related_behind, related_before, related_back}
-use Rattle.tile_model.proofs.Inverses.{inverse_append, inverse_type, crossings_lefts, related_inverses}
+use Rattle.tile_model.proofs.Relations.{related_type, related_behind}
+use Rattle.tile_model.proofs.Inverses.{inverse_type, crossings_lefts, related_inverses}
 use Rattle.tile_model.proofs.SameTile.{related_same_tile, same_tile_on, same_tile_back, same_tile_before}
 use Rattle.tile_model.proofs.Distances.{distance_from, distance_to, turning_stays}
 use Rattle.tree_model.specs.Automata.{TreeAutomaton}
@@ -17,43 +17,47 @@ use Rattle.tree_model.specs.Names.{word}
 use Rattle.tree_model.specs.Positions.{Position}
 use Rattle.tree_model.specs.Places.{IsPlace, position_word}
 use Rattle.tree_laws.specs.Laws.{rerooted, way_to, IsPlaceFrom, IsShortestWay}
-use Rattle.tree_laws.proofs.Words.{word_push, crossings_position}
+use Rattle.tree_laws.proofs.Words.{crossings_position}
 use Rattle.tree_laws.proofs.Places.{one_place, places_same_tile}
-use Rattle.tree_laws.proofs.Shortest.{inverse_lefts}
 use Rattle.tree_laws.proofs.Levels.{start_type, turns_reach}
 use Rattle.tree_laws.proofs.Between.{kind_known, shortest_way}
 use Rattle.tree_model.specs.Limits.{deepest}
 use Rattle.cell_distance.specs.Passing.{LeavesOut}
+use Rattle.cell_distance.proofs.Leaving.{from_on}
 
-pub word_append : (m n : List ℕ) → word (m ++ n) ≡ word m ++ word n
+word_append : (m n : List ℕ) → word (m ++ n) ≡ word m ++ word n
 word_append [] n = refl
 word_append (i ∷ m) n = ap (λ l. replicate i L ++ X ∷ l) (word_append m n) ∙ sym (append_assoc (replicate i L) (X ∷ word m) (word n))
 
--- the way back along a name begins with its last side
-pub word_back : (m : List ℕ) (i : ℕ) → inverse (word (m ++ i ∷ [])) ≡ X ∷ (replicate i R ++ inverse (word m))
-word_back m i =
-    ap inverse (word_push m i) ∙ inverse_append (word m) (replicate i L ++ X ∷ [])
-    ∙ ap (λ l. l ++ inverse (word m)) (inverse_append (replicate i L) (X ∷ []) ∙ ap (λ l. X ∷ l) (inverse_lefts i))
-
-pub one_side_back : (way : List Letter) (m rest : List ℕ) (i : ℕ) → rest ≡ m ++ i ∷ [] → ((way ++ X ∷ []) ++ replicate i R) ++ inverse (word m) ≡ way ++ inverse (word rest)
-one_side_back way m rest i e =
-    append_assoc (way ++ X ∷ []) (replicate i R) (inverse (word m)) ∙ append_assoc way (X ∷ []) (replicate i R ++ inverse (word m))
-    ∙ ap (λ l. way ++ l) (sym (word_back m i) ∙ ap (λ n. inverse (word n)) (sym e))
+-- the way back along a position, and then along a name
+abbrev pub way : List ℕ → ℕ → List ℕ → List Letter
+way back spin onwards = inverse (word back ++ replicate spin L) ++ word onwards
 
 -- the way between the words of two spots, from the place where their names part
-pub spots_leave_out : (m n : List ℕ) (side kept : ℕ) → take kept m ≡ take kept n → length m ≤ deepest → LeavesOut (position_word (record { name = m; side = side })) (word n) ((replicate side R ++ inverse (word (drop kept m))) ++ word (drop kept n))
-spots_leave_out m n side kept same few = record {
+spots_leave_out : (m n back onwards : List ℕ) (side kept : ℕ) → back ≡ drop kept m → onwards ≡ drop kept n → take kept m ≡ take kept n → length m ≤ deepest
+    → LeavesOut (position_word (record { name = m; side = side })) (word n) (way back side onwards)
+spots_leave_out m n back onwards side kept b o same few = record {
   common = word (take kept m);
-  back = word (drop kept m) ++ replicate side L;
-  onwards = word (drop kept n);
-  first = ap (λ l. l ++ replicate side L) (split m) ∙ append_assoc (word (take kept m)) (word (drop kept m)) (replicate side L);
-  second = split n ∙ ap (λ l. word l ++ word (drop kept n)) (sym same);
-  shape = ap (λ l. l ++ word (drop kept n)) (ap (λ l. l ++ inverse (word (drop kept m))) (sym (inverse_lefts side)) ∙ sym (inverse_append (word (drop kept m)) (replicate side L)));
+  back = word back ++ replicate side L;
+  onwards = word onwards;
+  first = ap (λ l. l ++ replicate side L) (split m back b) ∙ append_assoc (word (take kept m)) (word back) (replicate side L);
+  second = split n onwards o ∙ ap (λ l. word l ++ word onwards) (sym same);
+  shape = refl;
   short = inr (omega (arith, few, crossings_position (record { name = m; side = side })));
 }
   where
-    split : (l : List ℕ) → word l ≡ word (take kept l) ++ word (drop kept l)
-    split l = ap word (sym (take-append-drop kept l)) ∙ word_append (take kept l) (drop kept l)
+    split : (l rest : List ℕ) → rest ≡ drop kept l → word l ≡ word (take kept l) ++ word rest
+    split l rest e = ap word (sym (take-append-drop kept l)) ∙ word_append (take kept l) (drop kept l) ∙ ap (λ r. word (take kept l) ++ word r) (sym e)
+
+-- the same, of names that were read several times, and their sides from there on
+pub parts_leave_out : (m n a b c d : List ℕ) (side spin kept : ℕ) → a ≡ m → b ≡ n → c ≡ m → d ≡ n → spin ≡ side → take kept a ≡ take kept b → length m ≤ deepest
+    → LeavesOut (position_word (record { name = m; side = side })) (word n) (way (take (length c - kept) (drop kept c)) spin (take (length d - kept) (drop kept d)))
+parts_leave_out m n a b c d side spin kept first second third fourth fifth same few =
+    let back : take (length c - kept) (drop kept c) ≡ drop kept m = ap (λ (l : List ℕ). take (length l - kept) (drop kept l)) third ∙ from_on kept m in
+    let onwards : take (length d - kept) (drop kept d) ≡ drop kept n = ap (λ (l : List ℕ). take (length l - kept) (drop kept l)) fourth ∙ from_on kept n in
+    let shared : take kept m ≡ take kept n = ap (take kept) (sym first) ∙ same ∙ ap (take kept) second in
+    subst (λ i. LeavesOut (position_word (record { name = m; side = side })) (word n) (way (take (length c - kept) (drop kept c)) i (take (length d - kept) (drop kept d)))) (sym fifth)
+    (spots_leave_out m n (take (length c - kept) (drop kept c)) (take (length d - kept) (drop kept d)) side kept back onwards shared few)
 
 module _ (kinds : List TileKind) (a : TreeAutomaton) (k : ℕ) (valid : IsValid kinds) (ok : IsAccepted kinds a) (known : k < length kinds) where
   start : IsType kinds (k, 0)

@@ -3,7 +3,7 @@ ghost use Rattle.std.specs.Prelude.{◌≡◌, ◌<◌, ◌≤◌, ◌⊎◌, �
 ghost use Rattle.std.specs.Prelude.{IfOk, OnOk, IsErrOf};
 ghost use Rattle.tile_model.specs.declared.Letter.TheVariants.{L, R};
 ghost use Rattle.tile_model.specs.Tessellations.{sides};
-ghost use Rattle.tile_model.specs.Walks.{opposite as undone};
+ghost use Rattle.tile_model.specs.Walks.{inverse, opposite as undone};
 ghost use Rattle.tree_model.specs.Names.{word};
 ghost use Rattle.tree_model.specs.Positions.{Leads, root};
 ghost use Rattle.tree_laws.specs.Laws.{way_to};
@@ -15,7 +15,7 @@ ghost use Rattle.cell_distance.specs.Passing.{LeadsFar};
 use crate::fault::DistFault;
 use cell_names::Name;
 use std::alloc::{AllocError, Global};
-use step_engine::{root_spot, walk};
+use step_engine::{root_spot, walk, walk_between};
 use structure_check::Rules;
 use turn_rules::Spot;
 use walk_words::{Letter, Walk};
@@ -36,6 +36,38 @@ pub fn arrive(alloc: Global, r: &Rules, kind: u8, side: u8, way: &Walk) -> Resul
     let mut spot = root_spot(alloc, r, kind)?;
     spot.face(r, side);
     walk(&mut spot, r, way)?;
+    Ok(spot)
+}
+
+/// Where the way back along the word of a position, and then along the word of a name, leads from a side of the root of
+/// a kind of the tessellation. The position has the name `back` and the side `spin`.
+pub fn arrive_between(
+    alloc: Global,
+    r: &Rules,
+    kind: u8,
+    side: u8,
+    spin: u8,
+    back: &[u8],
+    onwards: &[u8],
+) -> Result<Spot, DistFault>
+    requires sound { AreSound r.now }
+    requires kind { kind < length r.now.kinds }
+    requires side { side < sides r.now.kinds (kind, 0) }
+    ensures leads { IfOk result (λ s.
+        Leads r.now.kinds r.now.automaton kind root
+        (replicate side L ++ (inverse (word back.now ++ replicate spin L) ++ word onwards.now))
+        (position s)) }
+    ensures near { IfOk result (λ s. length s.name ≤ deepest) }
+    ensures deep { IsErrOf result DistFault.Deep
+        → LeadsFar r.now.kinds r.now.automaton kind side
+        (inverse (word back.now ++ replicate spin L) ++ word onwards.now) }
+    ensures too_deep { LeadsFar r.now.kinds r.now.automaton kind side
+        (inverse (word back.now ++ replicate spin L) ++ word onwards.now)
+        → IsErrOf result DistFault.Deep ⊎ IsErrOf result DistFault.Memory }
+{
+    let mut spot = root_spot(alloc, r, kind)?;
+    spot.face(r, side);
+    walk_between(&mut spot, r, spin, back, onwards)?;
     Ok(spot)
 }
 

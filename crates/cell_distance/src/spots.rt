@@ -1,8 +1,8 @@
 //! Distances and shortest walks between two spots of one tree.
-ghost use Rattle.std.specs.Prelude.{◌≡◌, ◌≤◌, ◌⊎◌, List, [], ◌++◌, length, take};
-ghost use Rattle.std.specs.Prelude.{IfOk, OnOk, IsErrOf};
+ghost use Rattle.std.specs.Prelude.{◌≡◌, ◌≤◌, ◌⊎◌, List, [], length, take};
+ghost use Rattle.std.specs.Prelude.{IfOk, IsErrOf};
 ghost use Rattle.tile_model.specs.declared.Letter.{Letter};
-ghost use Rattle.tile_model.specs.Walks.{inverse, type_of};
+ghost use Rattle.tile_model.specs.Walks.{type_of};
 ghost use Rattle.tile_model.specs.Relation.{IsDistance};
 ghost use Rattle.tree_model.specs.Names.{word};
 ghost use Rattle.tree_model.specs.Places.{position_word};
@@ -12,15 +12,15 @@ ghost use Rattle.structure_check.specs.Rules.{AreSound};
 ghost use Rattle.spot_laws.specs.Spots.{IsSpot, position, root_kind};
 ghost use Rattle.step_engine.specs.Crossings.{StandsAfter};
 ghost use Rattle.tree_model.specs.Limits.{deepest};
-ghost use Rattle.cell_distance.specs.Passing.{WalkPassesFar, LeavesOut, ArrivesFrom};
+ghost use Rattle.cell_distance.specs.Passing.{WalkPassesFar, ArrivesFrom};
 
-use crate::arrival::{arrive, push_turns, push_word, way_along};
+use crate::arrival::{arrive_between, way_along};
 use crate::fault::DistFault;
-use std::alloc::{AllocError, Global};
+use std::alloc::Global;
 use structure_check::Rules;
 use tile_kinds::DartType;
 use turn_rules::Spot;
-use walk_words::{Letter, Walk};
+use walk_words::Walk;
 
 /// The least number of crossings of a walk from the tile of `s` to the tile of `t`, two spots of
 /// one tree: whatever walks they stand after, this is the distance between the two.
@@ -73,7 +73,8 @@ pub fn spot_shortest(alloc: Global, r: &Rules, s: &Spot, t: &Spot) -> Result<Wal
 }
 
 /// The type that `s` faces, and where the way to the tile of `t` leads in the tree whose root is
-/// the tile of `s`.
+/// the tile of `s`: back along the word of `s` and then along that of `t`, without what both words
+/// share, the sides that their names begin with.
 fn go_between_spots(
     alloc: Global,
     r: &Rules,
@@ -94,24 +95,11 @@ fn go_between_spots(
         → IsErrOf result DistFault.Deep ⊎ IsErrOf result DistFault.Memory }
 {
     let from = s.faced_type(r);
-    let way = way_between_spots(alloc, s, t)?;
-    let there = arrive(alloc, r, from.kind, from.residue, &way)?;
-    Ok((from, there))
-}
-
-/// The way from the end of the word of `s` to the tile of `t`, without what both words share: the
-/// sides that their names begin with.
-fn way_between_spots(alloc: Global, s: &Spot, t: &Spot) -> Result<Walk, AllocError>
-    requires { length s.now.name ≤ deepest }
-    ensures { IfOk result (λ way.
-        LeavesOut (position_word (position s.now)) (word t.now.name) way) }
-{
     let kept = shared(s.name().sides(), t.name().sides());
-    let mut way = Walk::new(alloc);
-    push_turns(&mut way, Letter::R, s.spin())?;
-    push_word_back(&mut way, &s.name().sides()[kept..])?;
-    push_word(&mut way, &t.name().sides()[kept..])?;
-    Ok(way)
+    let back = &s.name().sides()[kept..];
+    let onwards = &t.name().sides()[kept..];
+    let there = arrive_between(alloc, r, from.kind, from.residue, s.spin(), back, onwards)?;
+    Ok((from, there))
 }
 
 /// How many sides two names begin with that are the same.
@@ -125,17 +113,4 @@ fn shared(m: &[u8], n: &[u8]) -> usize
         count += 1;
     }
     count
-}
-
-/// Adds the way back along the word of a name.
-fn push_word_back(way: &mut Walk, name: &[u8]) -> Result<(), AllocError>
-    ensures { OnOk result (way.new ≡ way.old ++ inverse (word name.now)) }
-{
-    let mut rest = name;
-    while let Some((last, before)) = rest.split_last() {
-        way.push(Letter::X)?;
-        push_turns(way, Letter::R, *last)?;
-        rest = before;
-    }
-    Ok(())
 }

@@ -1,8 +1,7 @@
 //! `Name`: the list of child sides on the way from the root of the tree to a tile.
 ghost use Rattle.std.specs.Prelude.{◌≡◌, ◌<◌, ◌≤◌, ◌↔◌, [], ◌∷◌, ◌++◌, length, take, nat_eq, refl, Some, IsTrue, IsNone, IfSome, IfNone, IfOk, OnOk, OnErr, slice_set};
 ghost use Rattle.std.specs.Cmp.{partial_equiv_from_equiv};
-ghost use Rattle.std.specs.Cmp.Lexicographic.{pointwise, slice_cmp, nat_list_eq_equiv, nat_list_cmp_total, texts_ties, texts_po};
-ghost use Rattle.std.specs.Hash as fed;
+ghost use Rattle.std.specs.Cmp.Lexicographic.{pointwise, slice_cmp, nat_list_eq_equiv, nat_list_cmp_total, bytes_decides, texts_ties, texts_po};
 ghost use Rattle.std.specs.Ordering.{nat_cmp};
 ghost use Rattle.tree_model.specs.Names.{IsBefore};
 ghost use Rattle.cell_names.specs.Name.{IsName};
@@ -161,14 +160,15 @@ impl Ord for Name {
 }
 
 impl Hash for Name {
-    ghost use Rattle.std.specs.Cmp.Rules.{hashing};
-    ghost use Rattle.std.proofs.Common.{rules};
+    ghost use Rattle.std.specs.Prelude.{[], ◌∷◌};
+    ghost use Rattle.std.proofs.Common.{ap};
 
-    ghost hash_input = { λ name. fed.slice fed.u8 name };
+    ghost hash_input = { λ name. name ∷ [] };
 
-    ghost respects_eq = { Prim.search (hashing, rules) };
+    ghost respects_eq = { λ name other same. ap (λ n. n ∷ []) ((bytes_decides name other).0 same) };
 
+    // All sides in one write, since hashers take many bytes at once: names may be long.
     fn hash<H: Hasher>(&self, state: &mut H) {
-        self.sides().hash(state);
+        state.write(self.sides());
     }
 }

@@ -1,9 +1,9 @@
 -- Detours: how far the contour has left a spot that itself stays where it is.
-use Rattle.std.specs.Prelude.{◌≡◌, ℕ, suc, ◌≤◌, Bool, ◌∷◌, [], ◌++◌, length}
+use Rattle.std.specs.Prelude.{◌≡◌, ℕ, suc, ◌≤◌, Bool, ◌∷◌, [], ◌++◌, length, replicate}
 use Rattle.tile_model.specs.declared.Letter.{Letter}
 use Rattle.tile_model.specs.declared.Letter.TheVariants.{X}
 use Rattle.structure_check.specs.Rules.{TreeRules, AreSound}
-use Rattle.tree_model.specs.Positions.{Position, LiesAcross, Moves}
+use Rattle.tree_model.specs.Positions.{Position, LiesAcross, Moves, Leads}
 use Rattle.spot_laws.specs.Spots.{TreeSpot, IsSpot, position, root_kind, tile_state, rejoined}
 use Rattle.tree_model.specs.Contours.{Opens}
 use Rattle.tree_laws.specs.Directions.{Goes, turned, mark_towards, most_open}
@@ -57,6 +57,14 @@ pub record HasCrossed (rules : TreeRules) (s : TreeSpot) (d d' : Detour) : Type 
   pub detour : IsDetour rules s d'
   pub across :
       LiesAcross rules.kinds rules.automaton (root_kind rules s) (there s d) (there s d')
+
+-- the detour that has turned by this letter that many times
+pub record HasTurned (rules : TreeRules) (s : TreeSpot)
+    (d : Detour) (x : Letter) (count : ℕ) (d' : Detour) : Type 0 where
+  pub detour : IsDetour rules s d'
+  pub leads :
+      Leads rules.kinds rules.automaton (root_kind rules s)
+      (there s d) (replicate count x) (there s d')
 
 -- where a turn of the detour leads, leftwards or else rightwards
 abbrev pub turned_there : TreeRules → TreeSpot → Bool → Detour → Position

@@ -1,12 +1,13 @@
 //! The way along the contour of the tree from a spot, which itself stays where it is until the way is accepted.
 ghost use Rattle.std.specs.Prelude.{◌≡◌, ◌≢◌, ◌↔◌, ◌<◌, ◌≤◌, ◌+◌, ◌^◌, true, false, nat_eq};
 ghost use Rattle.std.specs.Prelude.{[], ◌∷◌, ◌++◌, length, IfOk, OnOk, OnErr, IsErrOf, IsTrue, All};
+ghost use Rattle.tile_model.specs.declared.Letter.TheVariants.{L, R};
 ghost use Rattle.structure_check.specs.Rules.{TreeRules};
 ghost use Rattle.tree_model.specs.Automata.{next, previous, side_count};
 ghost use Rattle.spot_laws.specs.Spots.{IsSpot, tile_state, faced_rule, position};
 ghost use Rattle.step_engine.specs.Detours.{spot_there, there, turned_there, most_open_there};
 ghost use Rattle.step_engine.specs.Detours.{IsShaped, IsDetour, IsAbove, HasReached, HasMoved};
-ghost use Rattle.step_engine.specs.Detours.{HasCrossed, OpensTowards, FacesDeep};
+ghost use Rattle.step_engine.specs.Detours.{HasCrossed, HasTurned, OpensTowards, FacesDeep};
 
 use crate::fault::{DEEPEST, StepFault};
 use crate::tile::tile;
@@ -14,7 +15,7 @@ use smallvec::SmallVec;
 use std::alloc::AllocError;
 use structure_check::Rules;
 use tree_model::Rule;
-use turn_rules::{Spot, brackets_fit, next_left, next_right, rule};
+use turn_rules::{Spot, brackets_fit, left_by, next_left, next_right, right_by, rule};
 
 /// How many sides below the spot's own name a detour keeps without an allocation.
 const INLINE: usize = 32;
@@ -100,6 +101,22 @@ impl Detour {
         ensures { HasReached r.now s.now (turned_there r.now s.now leftwards self.old) self.new }
     {
         self.spin = beside(r, self.tile, self.spin, leftwards);
+    }
+
+    /// Faces the side that lies `count` sides to the left.
+    pub(crate) fn turn_lefts(&mut self, s: &Spot, r: &Rules, count: u8)
+        requires { IsDetour r.now s.now self.old }
+        ensures { HasTurned r.now s.now self.old L count self.new }
+    {
+        self.spin = left_by(r, self.tile, self.spin, count);
+    }
+
+    /// Faces the side that lies `count` sides to the right.
+    pub(crate) fn turn_rights(&mut self, s: &Spot, r: &Rules, count: u8)
+        requires { IsDetour r.now s.now self.old }
+        ensures { HasTurned r.now s.now self.old R count self.new }
+    {
+        self.spin = right_by(r, self.tile, self.spin, count);
     }
 
     #[inline]

@@ -5,6 +5,7 @@ mod crossing;
 mod detour;
 mod fault;
 pub mod laws;
+mod names;
 mod steps;
 #[cfg(test)]
 mod tests;
@@ -13,4 +14,5 @@ mod tile;
 pub use crossing::{Contour, Crossing};
 pub use detour::Detour;
 pub use fault::{DEEPEST, StepFault};
+pub use names::walk_between;
 pub use steps::{cross, root_spot, spot_walk, turn_left, turn_right, walk, walk_over};

@@ -7,7 +7,7 @@ mod slow;
 mod spots;
 
 use crate::laws::{deep_is_far, one_place};
-use crate::{StepFault, cross, root_spot, spot_walk, turn_left, turn_right, walk};
+use crate::{StepFault, cross, root_spot, spot_walk, turn_left, turn_right, walk, walk_between};
 use sample_tilings::pentagons;
 use std::alloc::{AllocError, Global};
 use std::test::Fail;
@@ -81,6 +81,29 @@ fn writes_the_word_of_a_spot(rt: HostRuntime) -> Result<(), Fail> {
     walk(&mut s, &r, &read_walk(alloc, b"XLLLLXLLLXLLLLX")?)?;
     let word = print_walk(alloc, &spot_walk(alloc, &s)?)?;
     assert_eq!(rt; word.as_slice(), b"LXLLXL".as_slice());
+    Ok(())
+}
+
+// The position at side 1 of the tile 1.2, gone back from there, and the names 1.2 and 0.4, gone along from the root. Six
+// sides to the right are one, round a pentagon.
+#[test]
+fn goes_by_names(rt: HostRuntime) -> Result<(), Fail> {
+    let alloc = rt.alloc();
+    let Some(r) = pentagons(alloc) else {
+        panic!(rt; "refused");
+    };
+    let Some(mut s) = start(alloc, &r)? else {
+        panic!(rt; "no kind");
+    };
+    walk(&mut s, &r, &read_walk(alloc, b"XLLLLXLLLXLLLLX")?)?;
+    assert_eq!(rt; (s.name().sides(), s.spin()), ([1, 2].as_slice(), 1));
+    walk_between(&mut s, &r, 1, &[1, 2], &[])?;
+    assert_eq!(rt; (s.name().sides(), s.spin()), ([].as_slice(), 0));
+    walk_between(&mut s, &r, 0, &[], &[1, 2])?;
+    assert_eq!(rt; (s.name().sides(), s.spin()), ([1, 2].as_slice(), 0));
+    turn_left(&mut s, &r);
+    walk_between(&mut s, &r, 6, &[1, 2], &[0, 4])?;
+    assert_eq!(rt; (s.name().sides(), s.spin()), ([0, 4].as_slice(), 0));
     Ok(())
 }
 
