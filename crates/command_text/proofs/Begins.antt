@@ -1,5 +1,6 @@
 -- Bytes that begin with others, and what follows from an error.
-use Rattle.std.proofs.Common.{◌≡◌, ℕ, List, [], ◌∷◌, ◌++◌, length, take, drop, Result, Ok, Err, IfOk, IfErr, OnErr, refl, ap, sym, ◌∙◌}
+use Rattle.std.proofs.Common.{◌≡◌, ℕ, List, [], ◌∷◌, ◌++◌, length, take, drop, Option, Some, None, IfSome, Result, Ok, Err, IfOk, IfErr, OnErr, refl, ap, sym, ◌∙◌}
+use Rattle.std.specs.Option.{ok_or}
 use Rattle.std.proofs.lemmas.List.{take-append-drop, append_assoc}
 use Rattle.command_text.specs.Replies.{StandsInFront}
 
@@ -42,3 +43,9 @@ pub on_if_err :
     {T E : Type 0} {P Q : Type 0} (r : Result T E) → (P → Q) → IfErr r (λ _. P) → IfErr r (λ _. Q)
 on_if_err (Ok x) f p = tt
 on_if_err (Err e) f p = f p
+
+pub on_some :
+    {T E : Type 0} {P Q : T → Type 0} (o : Option T) (e : E) → ((x : T) → P x → Q x) → IfSome o P
+    → IfOk (ok_or o e) Q
+on_some (Some x) e f p = f x p
+on_some None e f p = tt

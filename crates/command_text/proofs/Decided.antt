@@ -1,5 +1,5 @@
 -- Each line spells a command or none.
-use Rattle.std.proofs.Common.{◌≡◌, ◌≢◌, ℕ, ◌<◌, ◌≤◌, ◌==◌, ◌↔◌, Bool, true, false, ◌⊎◌, inl, inr, List, [], ◌∷◌, ◌++◌, map, get_or, drop, codes, Option, Some, None, refl, sym, ap, ap₂, ◌∙◌, subst, arith}
+use Rattle.std.proofs.Common.{◌≡◌, ◌≢◌, ℕ, ◌<◌, ◌≤◌, ◌↔◌, Bool, true, false, ◌⊎◌, inl, inr, List, [], ◌∷◌, ◌++◌, if◌then◌else◌, map, get_or, drop, Option, Some, None, refl, sym, ap, ap₂, ◌∙◌, subst, arith}
 use Rattle.std.specs.Str.{bytes_eq}
 use Rattle.std.proofs.lemmas.Bool.{cases_eq, cases_lt}
 use Rattle.std.proofs.lemmas.Slice.Eq.{bytes_eq-Decides}
@@ -11,12 +11,16 @@ use Rattle.tile_model.specs.WalkTexts.{letter_code, walk_text}
 use Rattle.reply_model.specs.declared.Command.{Command}
 use Rattle.reply_model.specs.Histories.{most_walkers}
 use Rattle.reply_model.specs.declared.Command.TheVariants.{New, Go, At, Same, Level, Dist, Path}
-use Rattle.command_text.specs.CommandLines.{space, IsWalkerNumber, one_walker, two_walkers, walker_and_walk, word_of, operands_of, IsSpelling, SpellsNothing}
-use Rattle.command_text.specs.Words.{Lacks, IsInFront, AreToldBy, walker_alone, walkers, walker_with_walk, TellNothing}
+use Rattle.reply_model.specs.declared.Command.TheVariants.{Put, Get, Ring, Count}
+use Rattle.command_text.specs.CommandLines.{space, IsWalkerNumber, one_walker, two_walkers, walker_and_walk, walker_and_text, one_distance, word_of, operands_of, IsSpelling, SpellsNothing}
+use Rattle.command_text.specs.Words.{Lacks, IsInFront, AreToldBy, walker_alone, walkers, walker_with_walk, walker_with_text, distance_alone, TellNothing, verb_text, IsCommandOf, IsNoCommandOf}
+use Rattle.command_text.specs.declared.command.Verb.{Verb}
+use Rattle.command_text.specs.declared.command.Verb.TheVariants.{New as NewVerb, Go as GoVerb, At as AtVerb, Same as SameVerb, Level as LevelVerb, Dist as DistVerb, Path as PathVerb}
+use Rattle.command_text.specs.declared.command.Verb.TheVariants.{Put as PutVerb, Get as GetVerb, Ring as RingVerb, Count as CountVerb}
 use Rattle.command_text.proofs.Splits.{lacks_none, one_split}
 use Rattle.command_text.proofs.Numbers.{walker_lacks}
-use Rattle.command_text.proofs.Operands.{tells_walker, tells_walkers, tells_walk, tell_no_walker, tell_nobody, tell_no_second, tell_no_walk}
-use Rattle.command_text.proofs.Forms.{form, spells, tells_nothing, unknown, one_word}
+use Rattle.command_text.proofs.Operands.{NoFront, tells_walker, tells_walkers, tells_walk, tells_text, tells_distance, tell_no_walker, no_front_walkers, no_front_walk, no_front_text, tell_no_second, tell_no_walk, tell_no_distance}
+use Rattle.command_text.proofs.Forms.{form, verbs, find, is_word, no_command, spells, spells_none, unknown, one_word}
 
 -- bytes, cut at the first space, if there is one
 pub record IsCut (bytes : List ℕ) : Type 0 where
@@ -117,6 +121,27 @@ walk_or (byte ∷ bytes) = go (cases_eq byte 45) (letters_or (byte ∷ bytes)) b
   go (inr other) (inr none) l e =
       inr (no_walk none (λ f. other (sym (ap (λ (t : List ℕ). get_or t 0 0) f))))
 
+-- a verb that has the word, if there is one
+find_or :
+    (word : List ℕ) (l : List Verb)
+    → ((verb : Verb) × (word ≡ verb_text verb)) ⊎ (find word l ≡ None)
+find_or word [] = inr refl
+find_or word (verb ∷ l) = go (bytes_eq word (verb_text verb)) refl (find_or word l) where
+  go :
+      (b : Bool) → bytes_eq word (verb_text verb) ≡ b
+      → ((verb : Verb) × (word ≡ verb_text verb)) ⊎ (find word l ≡ None)
+      → ((v : Verb) × (word ≡ verb_text v)) ⊎
+      ((if bytes_eq word (verb_text verb) then Some verb else find word l) ≡ None)
+  go true e _ = inl (verb, (bytes_eq-Decides word (verb_text verb)).0 e)
+  go false e (inl found) = inl found
+  go false e (inr none) =
+      inr (ap (λ (b : Bool). if b then Some verb else find word l) e ∙ none)
+
+not_found : (word : List ℕ) → find word verbs ≡ None → (verb : Verb) → word ≢ verb_text verb
+not_found word none verb is =
+    let found = sym (is_word verb).found ∙ ap (λ (l : List ℕ). find l verbs) (sym is) ∙ none in
+    absurd (cc found)
+
 module _ (law : (digits : List ℕ) (n : ℕ) → IsNumber digits n ↔ (number digits ≡ Some n)) where
   walker_or :
       (digits : List ℕ)
@@ -146,12 +171,12 @@ module _ (law : (digits : List ℕ) (n : ℕ) → IsNumber digits n ↔ (number 
     pub in_front : IsInFront bytes walker rest
 
   front_or :
-      (bytes : List ℕ) → IsFront bytes ⊎ ((w : ℕ) (rest : List ℕ) → ¬ (IsInFront bytes w rest))
+      (bytes : List ℕ) → IsFront bytes ⊎ NoFront bytes
   front_or bytes = go (cut bytes) where
     behind :
         (c : IsCut bytes)
         → ((w : ℕ) × IsWalkerNumber c.front w) ⊎ ((w : ℕ) → ¬ (IsWalkerNumber c.front w))
-        → IsFront bytes ⊎ ((w : ℕ) (rest : List ℕ) → ¬ (IsInFront bytes w rest))
+        → IsFront bytes ⊎ NoFront bytes
     behind c (inl w) =
         inl (record { walker = w.0; rest = c.rest; in_front = record { digits = c.front; number = w.1; text = c.split } })
     behind c (inr none) = inr (λ w rest is.
@@ -162,7 +187,7 @@ module _ (law : (digits : List ℕ) (n : ℕ) → IsNumber digits n ↔ (number 
 
     go :
         IsCut bytes ⊎ Lacks space bytes
-        → IsFront bytes ⊎ ((w : ℕ) (rest : List ℕ) → ¬ (IsInFront bytes w rest))
+        → IsFront bytes ⊎ NoFront bytes
     go (inl c) = behind c (walker_or c.front)
     go (inr lacks) = inr (λ w rest is. lacks_none space bytes is.digits rest lacks is.text)
 
@@ -188,10 +213,10 @@ module _ (law : (digits : List ℕ) (n : ℕ) → IsNumber digits n ↔ (number 
     second f (inr none) = inr (tell_no_second bytes f.rest f.walker f.in_front none)
 
     go :
-        IsFront bytes ⊎ ((w : ℕ) (rest : List ℕ) → ¬ (IsInFront bytes w rest))
+        IsFront bytes ⊎ NoFront bytes
         → ((p : ℕ × ℕ) × AreToldBy bytes (two_walkers p.0 p.1)) ⊎ TellNothing bytes walkers
     go (inl f) = second f (walker_or f.rest)
-    go (inr none) = inr (tell_nobody bytes walkers (λ e. absurd (cc)) none)
+    go (inr none) = inr (no_front_walkers bytes none)
 
   tell_walk :
       (bytes : List ℕ)
@@ -209,62 +234,75 @@ module _ (law : (digits : List ℕ) (n : ℕ) → IsNumber digits n ↔ (number 
     second f (inr none) = inr (tell_no_walk bytes f.rest f.walker f.in_front none)
 
     go :
-        IsFront bytes ⊎ ((w : ℕ) (rest : List ℕ) → ¬ (IsInFront bytes w rest))
+        IsFront bytes ⊎ NoFront bytes
         → ((p : ℕ × List Letter) × AreToldBy bytes (walker_and_walk p.0 p.1)) ⊎ TellNothing bytes
         walker_with_walk
     go (inl f) = second f (walk_or f.rest)
-    go (inr none) = inr (tell_nobody bytes walker_with_walk (λ e. absurd (cc)) none)
+    go (inr none) = inr (no_front_walk bytes none)
+
+  tell_text :
+      (bytes : List ℕ)
+      → ((p : ℕ × List ℕ) × AreToldBy bytes (walker_and_text p.0 p.1)) ⊎ TellNothing bytes
+      walker_with_text
+  tell_text bytes = go (front_or bytes) where
+    go :
+        IsFront bytes ⊎ NoFront bytes
+        → ((p : ℕ × List ℕ) × AreToldBy bytes (walker_and_text p.0 p.1)) ⊎ TellNothing bytes
+        walker_with_text
+    go (inl f) = inl ((f.walker, f.rest), tells_text bytes f.rest f.walker f.rest f.in_front refl)
+    go (inr none) = inr (no_front_text bytes none)
+
+  tell_distance :
+      (bytes : List ℕ)
+      → ((d : ℕ) × AreToldBy bytes (one_distance d)) ⊎ TellNothing bytes distance_alone
+  tell_distance bytes = go (number bytes) refl where
+    go :
+        (o : Option ℕ) → number bytes ≡ o
+        → ((d : ℕ) × AreToldBy bytes (one_distance d)) ⊎ TellNothing bytes distance_alone
+    go None e =
+        inr (tell_no_distance bytes (λ d is. absurd (cc (sym e ∙ (law bytes d).0 is))))
+    go (Some d) e = inl (d, tells_distance bytes d ((law bytes d).1 e))
+
+  -- a command of a verb is told, or none is
+  abbrev Told : Verb → List ℕ → Type 0
+  Told verb bytes = ((c : Command) × IsCommandOf verb bytes c) ⊎ IsNoCommandOf verb bytes
+
+  by_shape :
+      {X : Type 0} (verb : Verb) (bytes : List ℕ) (command : X → Command)
+      → ((x : X) → word_of (command x) ≡ verb_text verb)
+      → ((x : X) × AreToldBy bytes (operands_of (command x))) ⊎ TellNothing bytes (form verb).shape
+      → Told verb bytes
+  by_shape verb bytes command word (inl told) =
+      inl (command told.0, record { word = word told.0; told = told.1 })
+  by_shape verb bytes command word (inr none) = inr (no_command verb verb bytes refl none)
+
+  by_verb : (verb : Verb) (bytes : List ℕ) → Told verb bytes
+  by_verb NewVerb bytes = by_shape NewVerb bytes New (λ w. refl) (tell_walker bytes)
+  by_verb GoVerb bytes = by_shape GoVerb bytes (λ p. Go p.0 p.1) (λ p. refl) (tell_walk bytes)
+  by_verb AtVerb bytes = by_shape AtVerb bytes At (λ w. refl) (tell_walker bytes)
+  by_verb SameVerb bytes = by_shape SameVerb bytes (λ p. Same p.0 p.1) (λ p. refl) (tell_walkers bytes)
+  by_verb LevelVerb bytes = by_shape LevelVerb bytes Level (λ w. refl) (tell_walker bytes)
+  by_verb DistVerb bytes = by_shape DistVerb bytes (λ p. Dist p.0 p.1) (λ p. refl) (tell_walkers bytes)
+  by_verb PathVerb bytes = by_shape PathVerb bytes (λ p. Path p.0 p.1) (λ p. refl) (tell_walkers bytes)
+  by_verb PutVerb bytes = by_shape PutVerb bytes (λ p. Put p.0 p.1) (λ p. refl) (tell_text bytes)
+  by_verb GetVerb bytes = by_shape GetVerb bytes Get (λ w. refl) (tell_walker bytes)
+  by_verb RingVerb bytes = by_shape RingVerb bytes Ring (λ d. refl) (tell_distance bytes)
+  by_verb CountVerb bytes = by_shape CountVerb bytes Count (λ d. refl) (tell_distance bytes)
 
   -- a line is decided
   abbrev Decided : List ℕ → Type 0
   Decided line = ((c : Command) × IsSpelling line c) ⊎ SpellsNothing line
 
-  -- by a row of the table of the first words
-  by_row :
-      {Told : Type 0} (line word rest known : List ℕ) (command : Told → Command)
-      → line ≡ word ++ space ∷ rest → Lacks space word → word ≡ known
-      → ((x : Told) → known ≡ word_of (command x))
-      → ((x : Told) × AreToldBy rest (operands_of (command x))) ⊎ TellNothing rest
-      (form known).shape
-      → Decided line
-  by_row line word rest known command e lacks is same (inl told) =
-      inl (command told.0, spells line word rest (command told.0) e (is ∙ same told.0) told.1)
-  by_row line word rest known command e lacks is same (inr none) =
-      inr (tells_nothing line word rest e lacks known is none)
-
-  is_word : (word known : List ℕ) → (word ≡ known) ⊎ (word ≢ known)
-  is_word word known = go (bytes_eq word known) refl where
-    go : (b : Bool) → bytes_eq word known ≡ b → (word ≡ known) ⊎ (word ≢ known)
-    go true e = inl ((bytes_eq-Decides word known).0 e)
-    go false e = inr (λ is. absurd (cc (sym e ∙ (bytes_eq-Decides word known).1 is)))
-
   by_word :
       (line word rest : List ℕ) → line ≡ word ++ space ∷ rest → Lacks space word → Decided line
-  by_word line word rest e lacks =
-      or_else (is_word word (codes "new"))
-      (λ is. by_row line word rest (codes "new") New e lacks is (λ w. refl) (tell_walker rest))
-      (λ a. or_else (is_word word (codes "go"))
-      (λ is. by_row line word rest (codes "go") (λ p. Go p.0 p.1) e lacks is (λ p. refl)
-      (tell_walk rest))
-      (λ b. or_else (is_word word (codes "at"))
-      (λ is. by_row line word rest (codes "at") At e lacks is (λ w. refl) (tell_walker rest))
-      (λ c. or_else (is_word word (codes "same"))
-      (λ is. by_row line word rest (codes "same") (λ p. Same p.0 p.1) e lacks is (λ p. refl)
-      (tell_walkers rest))
-      (λ d. or_else (is_word word (codes "level"))
-      (λ is. by_row line word rest (codes "level") Level e lacks is (λ w. refl) (tell_walker rest))
-      (λ f. or_else (is_word word (codes "dist"))
-      (λ is. by_row line word rest (codes "dist") (λ p. Dist p.0 p.1) e lacks is (λ p. refl)
-      (tell_walkers rest))
-      (λ g. or_else (is_word word (codes "path"))
-      (λ is. by_row line word rest (codes "path") (λ p. Path p.0 p.1) e lacks is (λ p. refl)
-      (tell_walkers rest))
-      (λ h. inr (unknown line word rest e lacks a b c d f g h))))))))
-    where
-      or_else :
-          {P : Type 0} → P ⊎ ¬ P → (P → Decided line) → (¬ P → Decided line) → Decided line
-      or_else (inl p) f g = f p
-      or_else (inr n) f g = g n
+  by_word line word rest e lacks = go (find_or word verbs) where
+    known : (verb : Verb) → word ≡ verb_text verb → Told verb rest → Decided line
+    known verb is (inl told) = inl (told.0, spells line word rest verb told.0 e is told.1)
+    known verb is (inr none) = inr (spells_none line word rest e lacks verb is none)
+
+    go : ((verb : Verb) × (word ≡ verb_text verb)) ⊎ (find word verbs ≡ None) → Decided line
+    go (inl found) = known found.0 found.1 (by_verb found.0 rest)
+    go (inr none) = inr (unknown line word rest e lacks (not_found word none))
 
   pub decided : (line : List ℕ) → Decided line
   decided line = go (cut line) where

@@ -1,13 +1,16 @@
 -- A line spells one command: its first word and what stands behind it tell which.
-use Rattle.std.proofs.Common.{◌≡◌, ◌≢◌, ℕ, ◌==◌, Bool, true, false, List, [], ◌∷◌, ◌++◌, if◌then◌else◌, codes, Option, Some, None, Result, Ok, Err, IfOk, IsErrOf, MatchResult, refl, sym, ap, ap₂, ◌∙◌, subst}
-use Rattle.std.specs.List.{list_all}
+use Rattle.std.proofs.Common.{◌≡◌, ◌≢◌, ℕ, ◌==◌, Bool, true, false, List, [], ◌∷◌, ◌++◌, if◌then◌else◌, Option, Some, None, Result, Ok, Err, IfOk, IsErrOf, MatchResult, refl, sym, ap, ap₂, ◌∙◌, subst}
 use Rattle.std.specs.Str.{bytes_eq}
 use Rattle.std.proofs.lemmas.List.Elements.{All-nil, All-cons}
 use Rattle.tile_model.specs.declared.Letter.{Letter}
 use Rattle.reply_model.specs.declared.Command.{Command}
 use Rattle.reply_model.specs.declared.Command.TheVariants.{New, Go, At, Same, Level, Dist, Path}
-use Rattle.command_text.specs.CommandLines.{space, spaced, Operands, one_walker, two_walkers, walker_and_walk, word_of, operands_of, IsSpelling, SpellsNothing}
-use Rattle.command_text.specs.Words.{Lacks, AreToldBy, Shape, walker_alone, walkers, walker_with_walk, shape_of, TellNothing}
+use Rattle.reply_model.specs.declared.Command.TheVariants.{Put, Get, Ring, Count}
+use Rattle.command_text.specs.CommandLines.{space, spaced, Operands, one_walker, two_walkers, walker_and_walk, walker_and_text, one_distance, word_of, operands_of, IsSpelling, SpellsNothing}
+use Rattle.command_text.specs.Words.{Lacks, AreToldBy, Shape, walker_alone, walkers, walker_with_walk, walker_with_text, distance_alone, shape_of, TellNothing, verb_text, IsCommandOf, IsNoCommandOf}
+use Rattle.command_text.specs.declared.command.Verb.{Verb}
+use Rattle.command_text.specs.declared.command.Verb.TheVariants.{New as NewVerb, Go as GoVerb, At as AtVerb, Same as SameVerb, Level as LevelVerb, Dist as DistVerb, Path as PathVerb}
+use Rattle.command_text.specs.declared.command.Verb.TheVariants.{Put as PutVerb, Get as GetVerb, Ring as RingVerb, Count as CountVerb}
 use Rattle.command_text.specs.declared.command.LineFault.{LineFault}
 use Rattle.command_text.specs.declared.command.LineFault.TheVariants.{TooLong, Bad, Memory}
 use Rattle.command_text.proofs.Splits.{lacks_none, one_split}
@@ -26,40 +29,59 @@ abbrev of_walk : (ℕ → List Letter → Command) → Operands → Option Comma
 of_walk make (walker_and_walk w walk) = Some (make w walk)
 of_walk make _ = None
 
--- what the commands with a first word look like
+abbrev of_text : (ℕ → List ℕ → Command) → Operands → Option Command
+of_text make (walker_and_text w text) = Some (make w text)
+of_text make _ = None
+
+abbrev of_distance : (ℕ → Command) → Operands → Option Command
+of_distance make (one_distance d) = Some (make d)
+of_distance make _ = None
+
+-- what the commands of a verb look like
 pub record Form : Type 0 where
   pub shape : Shape
   pub make : Operands → Option Command
 
--- the table of the first words
-abbrev pub form : List ℕ → Form
-form word =
-    if bytes_eq word (codes "new") then record { shape = walker_alone; make = of_walker New }
-    else if bytes_eq word (codes "go") then record { shape = walker_with_walk; make = of_walk Go }
-    else if bytes_eq word (codes "at") then record { shape = walker_alone; make = of_walker At }
-    else if bytes_eq word (codes "same") then record { shape = walkers; make = of_walkers Same }
-    else if bytes_eq word (codes "level") then record { shape = walker_alone; make = of_walker Level }
-    else if bytes_eq word (codes "dist") then record { shape = walkers; make = of_walkers Dist }
-    else record { shape = walkers; make = of_walkers Path }
+-- the table of the verbs
+abbrev pub form : Verb → Form
+form NewVerb = record { shape = walker_alone; make = of_walker New }
+form GoVerb = record { shape = walker_with_walk; make = of_walk Go }
+form AtVerb = record { shape = walker_alone; make = of_walker At }
+form SameVerb = record { shape = walkers; make = of_walkers Same }
+form LevelVerb = record { shape = walker_alone; make = of_walker Level }
+form DistVerb = record { shape = walkers; make = of_walkers Dist }
+form PathVerb = record { shape = walkers; make = of_walkers Path }
+form PutVerb = record { shape = walker_with_text; make = of_text Put }
+form GetVerb = record { shape = walker_alone; make = of_walker Get }
+form RingVerb = record { shape = distance_alone; make = of_distance Ring }
+form CountVerb = record { shape = distance_alone; make = of_distance Count }
+
+-- a verb of the command, whose row of the table says what the command looks like
+pub record HasVerb (c : Command) : Type 0 where
+  pub verb : Verb
+  pub word : word_of c ≡ verb_text verb
+  pub shape : (form verb).shape ≡ shape_of (operands_of c)
+  pub made : (form verb).make (operands_of c) ≡ Some c
+
+row :
+    {c : Command} (verb : Verb) → word_of c ≡ verb_text verb
+    → (form verb).shape ≡ shape_of (operands_of c) → (form verb).make (operands_of c) ≡ Some c
+    → HasVerb c
+row verb word shape made = record { verb = verb; word = word; shape = shape; made = made }
 
 -- each command has a row of the table
-has_shape : (c : Command) → (form (word_of c)).shape ≡ shape_of (operands_of c)
-has_shape (New w) = refl
-has_shape (Go w walk) = refl
-has_shape (At w) = refl
-has_shape (Same w v) = refl
-has_shape (Level w) = refl
-has_shape (Dist w v) = refl
-has_shape (Path w v) = refl
-
-is_made : (c : Command) → (form (word_of c)).make (operands_of c) ≡ Some c
-is_made (New w) = refl
-is_made (Go w walk) = refl
-is_made (At w) = refl
-is_made (Same w v) = refl
-is_made (Level w) = refl
-is_made (Dist w v) = refl
-is_made (Path w v) = refl
+has_verb : (c : Command) → HasVerb c
+has_verb (New w) = row NewVerb refl refl refl
+has_verb (Go w walk) = row GoVerb refl refl refl
+has_verb (At w) = row AtVerb refl refl refl
+has_verb (Same w v) = row SameVerb refl refl refl
+has_verb (Level w) = row LevelVerb refl refl refl
+has_verb (Dist w v) = row DistVerb refl refl refl
+has_verb (Path w v) = row PathVerb refl refl refl
+has_verb (Put w text) = row PutVerb refl refl refl
+has_verb (Get w) = row GetVerb refl refl refl
+has_verb (Ring d) = row RingVerb refl refl refl
+has_verb (Count d) = row CountVerb refl refl refl
 
 -- the byte is another one than a space
 abbrev is_other : ℕ → Bool
@@ -82,15 +104,55 @@ lacks_by (byte ∷ bytes) e =
     let both = both_true (is_other byte) (all_other bytes) e in
     All-cons (λ b. b ≢ space) byte bytes (other_byte byte both.0) (lacks_by bytes both.1)
 
+-- all verbs
+abbrev pub verbs : List Verb
+verbs =
+    NewVerb ∷ GoVerb ∷ AtVerb ∷ SameVerb ∷ LevelVerb ∷ DistVerb ∷ PathVerb ∷ PutVerb ∷ GetVerb
+    ∷ RingVerb ∷ CountVerb ∷ []
+
+-- the first of these verbs that has the word
+abbrev pub find : List ℕ → List Verb → Option Verb
+find word [] = None
+find word (verb ∷ rest) = if bytes_eq word (verb_text verb) then Some verb else find word rest
+
+-- The word of a verb has no space, and no other verb has it.
+pub record IsWord (verb : Verb) : Type 0 where
+  pub found : find (verb_text verb) verbs ≡ Some verb
+  pub lacks : Lacks space (verb_text verb)
+
+a_word :
+    {verb : Verb} → find (verb_text verb) verbs ≡ Some verb → all_other (verb_text verb) ≡ true
+    → IsWord verb
+a_word {verb} found other =
+    record { found = found; lacks = lacks_by (verb_text verb) other }
+
+pub is_word : (verb : Verb) → IsWord verb
+is_word NewVerb = a_word refl refl
+is_word GoVerb = a_word refl refl
+is_word AtVerb = a_word refl refl
+is_word SameVerb = a_word refl refl
+is_word LevelVerb = a_word refl refl
+is_word DistVerb = a_word refl refl
+is_word PathVerb = a_word refl refl
+is_word PutVerb = a_word refl refl
+is_word GetVerb = a_word refl refl
+is_word RingVerb = a_word refl refl
+is_word CountVerb = a_word refl refl
+
+one_verb : (v u : Verb) → verb_text v ≡ verb_text u → v ≡ u
+one_verb v u same =
+    let found =
+    sym (is_word v).found ∙ ap (λ (l : List ℕ). find l verbs) same ∙ (is_word u).found in
+    cc found
+
+-- the verb of a command is the one whose word its line begins with
+verb_is : (c : Command) (verb : Verb) → word_of c ≡ verb_text verb → (has_verb c).verb ≡ verb
+verb_is c verb is = one_verb (has_verb c).verb verb (sym (has_verb c).word ∙ is)
+
 -- no first word has a space
 lacks_space : (c : Command) → Lacks space (word_of c)
-lacks_space (New w) = lacks_by (codes "new") refl
-lacks_space (Go w walk) = lacks_by (codes "go") refl
-lacks_space (At w) = lacks_by (codes "at") refl
-lacks_space (Same w v) = lacks_by (codes "same") refl
-lacks_space (Level w) = lacks_by (codes "level") refl
-lacks_space (Dist w v) = lacks_by (codes "dist") refl
-lacks_space (Path w v) = lacks_by (codes "path") refl
+lacks_space c =
+    subst (λ (l : List ℕ). Lacks space l) (sym (has_verb c).word) (is_word (has_verb c).verb).lacks
 
 -- the line of a command, cut behind its first word
 pub record IsParted (line : List ℕ) (c : Command) : Type 0 where
@@ -116,56 +178,60 @@ unique line c d is also =
     let same =
     one_split space (word_of c) (word_of d) p.rest q.rest (lacks_space c) (lacks_space d)
     (sym p.text ∙ q.text) in
+    let verb = verb_is c (has_verb d).verb (same.0 ∙ (has_verb d).word) in
     let shape =
-    sym (has_shape c) ∙ ap (λ (word : List ℕ). (form word).shape) same.0 ∙ has_shape d in
+    sym (has_verb c).shape ∙ ap (λ (v : Verb). (form v).shape) verb ∙ (has_verb d).shape in
     let told =
     one_told q.rest (operands_of c) (operands_of d)
     (subst (λ (l : List ℕ). AreToldBy l (operands_of c)) same.1 p.told) q.told shape in
     ap (the_command c)
-    (sym (is_made c) ∙ ap₂ (λ (word : List ℕ) (o : Operands). (form word).make o) same.0 told ∙ is_made d)
+    (sym (has_verb c).made ∙ ap₂ (λ (v : Verb) (o : Operands). (form v).make o) verb told ∙ (has_verb d).made)
+
+-- bytes that tell nothing of the shape of a verb tell no command of it
+pub no_command :
+    (verb known : Verb) (bytes : List ℕ) → verb ≡ known → TellNothing bytes (form known).shape
+    → IsNoCommandOf verb bytes
+no_command verb known bytes same none = λ c is.
+    none (operands_of c)
+    (sym (has_verb c).shape ∙ ap (λ (v : Verb). (form v).shape) (verb_is c verb is.word ∙ same))
+    is.told
 
 -- a first word, and behind it what the command is told
 pub spells :
-    (line word rest : List ℕ) (c : Command) → line ≡ word ++ space ∷ rest → word ≡ word_of c
-    → AreToldBy rest (operands_of c) → IsSpelling line c
-spells line word rest c e is told = record {
-  words = told.words;
-  told = told.told;
-  text =
-      e
-      ∙ ap₂ (λ (a b : List ℕ). a ++ space ∷ b) is told.text
-      ∙ sym (behind_word (word_of c) told.told);
-}
+    (line word rest : List ℕ) (verb : Verb) (c : Command) → line ≡ word ++ space ∷ rest
+    → word ≡ verb_text verb → IsCommandOf verb rest c → IsSpelling line c
+spells line word rest verb c e is of_verb =
+    let told = of_verb.told in
+    record {
+      words = told.words;
+      told = told.told;
+      text =
+          e
+          ∙ ap₂ (λ (a b : List ℕ). a ++ space ∷ b) (is ∙ sym of_verb.word) told.text
+          ∙ sym (behind_word (word_of c) told.told);
+    }
 
 module _ (line word rest : List ℕ) (e : line ≡ word ++ space ∷ rest) (lacks : Lacks space word) where
-  -- a first word, and behind it nothing of its shape
-  pub tells_nothing :
-      (known : List ℕ) → word ≡ known → TellNothing rest (form known).shape → SpellsNothing line
-  tells_nothing known is none = λ c spelt.
-      let p = parts line c spelt in
-      let same =
-      one_split space (word_of c) word p.rest rest (lacks_space c) lacks (sym p.text ∙ e) in
-      none (operands_of c) (sym (has_shape c) ∙ ap (λ (l : List ℕ). (form l).shape) (same.0 ∙ is))
-      (subst (λ (l : List ℕ). AreToldBy l (operands_of c)) same.1 p.told)
+  -- what a line that begins with the word spells
+  begins : (c : Command) (p : IsParted line c) → (word_of c ≡ word) × (p.rest ≡ rest)
+  begins c p = one_split space (word_of c) word p.rest rest (lacks_space c) lacks (sym p.text ∙ e)
 
-  -- a word that begins no line of a command
-  pub unknown :
-      word ≢ codes "new" → word ≢ codes "go" → word ≢ codes "at" → word ≢ codes "same"
-      → word ≢ codes "level" → word ≢ codes "dist" → word ≢ codes "path" → SpellsNothing line
-  unknown not_new not_go not_at not_same not_level not_dist not_path = λ c spelt.
+  -- the word of a verb, and behind it no command of the verb
+  pub spells_none :
+      (verb : Verb) → word ≡ verb_text verb → IsNoCommandOf verb rest → SpellsNothing line
+  spells_none verb is none = λ c spelt.
       let p = parts line c spelt in
-      let same =
-      one_split space (word_of c) word p.rest rest (lacks_space c) lacks (sym p.text ∙ e) in
-      no_word c (sym same.0)
-    where
-      no_word : (c : Command) → word ≢ word_of c
-      no_word (New w) = not_new
-      no_word (Go w walk) = not_go
-      no_word (At w) = not_at
-      no_word (Same w v) = not_same
-      no_word (Level w) = not_level
-      no_word (Dist w v) = not_dist
-      no_word (Path w v) = not_path
+      let same = begins c p in
+      none c (record {
+        word = same.0 ∙ is;
+        told = subst (λ (l : List ℕ). AreToldBy l (operands_of c)) same.1 p.told;
+      })
+
+  -- a word that is the one of no verb
+  pub unknown : ((verb : Verb) → word ≢ verb_text verb) → SpellsNothing line
+  unknown none = λ c spelt.
+      let same = begins c (parts line c spelt) in
+      none (has_verb c).verb (sym same.0 ∙ (has_verb c).word)
 
 -- one word alone
 pub one_word : (line : List ℕ) → Lacks space line → SpellsNothing line

@@ -1,8 +1,9 @@
 -- Numbers of walkers, and that no digit is a space.
-use Rattle.std.proofs.Common.{◌≡◌, ◌≢◌, ℕ, ◌<◌, List, [], ◌∷◌, ap, arith}
+use Rattle.std.proofs.Common.{◌≡◌, ◌≢◌, ℕ, ◌<◌, List, [], ◌∷◌, sym, ap, ◌∙◌, arith}
 use Rattle.std.specs.Char.{digit_value}
 use Rattle.std.specs.Str.Parse.{AllDigits}
 use Rattle.std.proofs.lemmas.List.Elements.{All-nil, All-cons}
+use Rattle.short_numbers.specs.Numbers.{IsNumber}
 use Rattle.command_text.specs.CommandLines.{space, IsWalkerNumber}
 use Rattle.command_text.specs.Words.{Lacks}
 
@@ -24,3 +25,7 @@ pub one_number :
     (digits others : List ℕ) (w v : ℕ) → digits ≡ others → IsWalkerNumber digits w
     → IsWalkerNumber others v → w ≡ v
 one_number digits others w v same is is' = cc (same, is.number.value, is'.number.value)
+
+-- bytes are one number
+pub one_value : (bytes : List ℕ) (n m : ℕ) → IsNumber bytes n → IsNumber bytes m → n ≡ m
+one_value bytes n m is is' = sym is.value ∙ is'.value

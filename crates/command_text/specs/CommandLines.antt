@@ -1,10 +1,12 @@
 -- The lines that spell commands: a word, and then words that say what the command is told.
+-- A text is one such word, the last of its line, whatever its bytes are: it may have spaces, or none.
 use Rattle.std.specs.Prelude.{◌≡◌, ℕ, ◌<◌, List, [], ◌∷◌, codes}
 use Rattle.std.specs.List.{join_with_byte}
 use Rattle.short_numbers.specs.Numbers.{IsNumber}
 use Rattle.tile_model.specs.declared.Letter.{Letter}
 use Rattle.reply_model.specs.declared.Command.{Command}
 use Rattle.reply_model.specs.declared.Command.TheVariants.{New, Go, At, Same, Level, Dist, Path}
+use Rattle.reply_model.specs.declared.Command.TheVariants.{Put, Get, Ring, Count}
 use Rattle.reply_model.specs.Histories.{most_walkers}
 use Rattle.tile_model.specs.WalkTexts.{walk_text}
 
@@ -30,6 +32,8 @@ pub data Operands : Type 0 where
   one_walker : (w : ℕ) → Operands
   two_walkers : (w v : ℕ) → Operands
   walker_and_walk : (w : ℕ) (walk : List Letter) → Operands
+  walker_and_text : (w : ℕ) (text : List ℕ) → Operands
+  one_distance : (d : ℕ) → Operands
 
 -- the words that tell it
 pub data AreTold : Operands → List (List ℕ) → Type 0 where
@@ -46,6 +50,12 @@ pub data AreTold : Operands → List (List ℕ) → Type 0 where
       (w : ℕ) (walk : List Letter) (digits : List ℕ)
       → IsWalkerNumber digits w
       → AreTold (walker_and_walk w walk) (digits ∷ walk_text walk ∷ [])
+  by_number_and_text :
+      (w : ℕ) (text digits : List ℕ)
+      → IsWalkerNumber digits w
+      → AreTold (walker_and_text w text) (digits ∷ text ∷ [])
+  by_distance :
+      (d : ℕ) (digits : List ℕ) → IsNumber digits d → AreTold (one_distance d) (digits ∷ [])
 
 -- the word that the line of a command begins with
 abbrev pub word_of : Command → List ℕ
@@ -56,6 +66,10 @@ word_of (Same w v) = codes "same"
 word_of (Level w) = codes "level"
 word_of (Dist w v) = codes "dist"
 word_of (Path w v) = codes "path"
+word_of (Put w text) = codes "put"
+word_of (Get w) = codes "get"
+word_of (Ring d) = codes "ring"
+word_of (Count d) = codes "count"
 
 -- what the command is told behind it
 abbrev pub operands_of : Command → Operands
@@ -66,6 +80,10 @@ operands_of (Same w v) = two_walkers w v
 operands_of (Level w) = one_walker w
 operands_of (Dist w v) = two_walkers w v
 operands_of (Path w v) = two_walkers w v
+operands_of (Put w text) = walker_and_text w text
+operands_of (Get w) = one_walker w
+operands_of (Ring d) = one_distance d
+operands_of (Count d) = one_distance d
 
 -- the line spells the command
 pub record IsSpelling (line : List ℕ) (c : Command) : Type 0 where

@@ -1,13 +1,14 @@
 //! The lines of commands, read.
-ghost use Rattle.std.specs.Prelude.{◌≡◌, ◌≢◌, ℕ, ◌<◌, ◌≤◌, ◌⊎◌, ◌↔◌, List, length, Err, IfOk, IfErr, IsErrOf, MatchResult};
+ghost use Rattle.std.specs.Prelude.{◌≡◌, ◌≢◌, ℕ, ◌<◌, ◌≤◌, ◌⊎◌, ◌↔◌, List, length, Err, IfOk, IfErr, IsErrOf, IfSome, IfNone, MatchResult};
 ghost use Rattle.reply_model.specs.declared.Command.{Command as CommandData};
 ghost use Rattle.tile_model.specs.declared.Letter.{Letter};
 ghost use Rattle.tile_model.specs.WalkTexts.{walk_text};
-ghost use Rattle.command_text.specs.CommandLines.{IsWalkerNumber, IsSpelling, SpellsNothing, one_walker, two_walkers, walker_and_walk, most_of_line};
-ghost use Rattle.command_text.specs.Words.{IsInFront, AreToldBy, TellNothing, walker_alone, walkers, walker_with_walk};
+ghost use Rattle.command_text.specs.CommandLines.{IsWalkerNumber, IsSpelling, SpellsNothing, one_walker, two_walkers, walker_and_walk, walker_and_text, one_distance, most_of_line};
+ghost use Rattle.command_text.specs.Words.{IsInFront, AreToldBy, TellNothing, walker_alone, walkers, walker_with_walk, walker_with_text, distance_alone, verb_text, IsCommandOf, IsNoCommandOf};
+ghost use Rattle.command_text.specs.declared.command.Verb.{Verb as VerbData};
 
 use crate::cutting::cut_at;
-use reply_model::{Command, WALKERS};
+use reply_model::{Bytes, Command, WALKERS};
 use short_numbers::read_number;
 use std::alloc::Global;
 use thiserror::Error;
@@ -32,12 +33,14 @@ pub enum LineFault {
 
 /// Reads the line of a command, without its line feed.
 ///
-/// The forms are `new W`, `go W LETTERS`, `at W`, `same W V`, `level W`, `dist W V` and `path W V`,
-/// with exactly one space between two words.
+/// The forms are `new W`, `go W LETTERS`, `at W`, `same W V`, `level W`, `dist W V`, `path W V`,
+/// `put W TEXT`, `get W`, `ring D` and `count D`, with exactly one space between two words.
 /// W and V are numbers of walkers: one to nine digits, leading zeros allowed, of a value from 0 to
 /// 63.
 /// LETTERS is the text of a walk.
-/// Only the letters of a walk take memory.
+/// TEXT is all bytes behind the one space behind W, whatever they are, perhaps none.
+/// D is a number of crossings: one to nine digits, leading zeros allowed.
+/// Only the letters of a walk and the bytes of a text take memory.
 ///
 /// # Errors
 ///
@@ -66,6 +69,22 @@ pub fn read_line(alloc: Global, line: &[u8]) -> Result<Command, LineFault>
     read_form(alloc, line)
 }
 
+/// What a command does: the first word of its line.
+#[derive(Clone, Copy)]
+enum Verb {
+    New,
+    Go,
+    At,
+    Same,
+    Level,
+    Dist,
+    Path,
+    Put,
+    Get,
+    Ring,
+    Count,
+}
+
 /// Reads a line of any length, by its first word and then by the shape of what stands behind it.
 fn read_form(alloc: Global, line: &[u8]) -> Result<Command, LineFault>
     ensures spelt { IfOk result (IsSpelling line.now) }
@@ -75,32 +94,78 @@ fn read_form(alloc: Global, line: &[u8]) -> Result<Command, LineFault>
     let Some((word, rest)) = cut_at(line, b' ') else {
         return Err(LineFault::Bad);
     };
+    let Some(verb) = verb_of(word) else {
+        return Err(LineFault::Bad);
+    };
+    read_told(alloc, verb, rest)
+}
+
+/// The verb of a first word.
+fn verb_of(word: &[u8]) -> Option<Verb>
+    ensures some { IfSome result (λ verb. word.now ≡ verb_text verb) }
+    ensures none { IfNone result ((verb : VerbData) → word.now ≢ verb_text verb) }
+{
     if word == b"new".as_slice() {
-        return Ok(Command::New(read_walker(rest)?));
+        Some(Verb::New)
+    } else if word == b"go".as_slice() {
+        Some(Verb::Go)
+    } else if word == b"at".as_slice() {
+        Some(Verb::At)
+    } else if word == b"same".as_slice() {
+        Some(Verb::Same)
+    } else if word == b"level".as_slice() {
+        Some(Verb::Level)
+    } else if word == b"dist".as_slice() {
+        Some(Verb::Dist)
+    } else if word == b"path".as_slice() {
+        Some(Verb::Path)
+    } else if word == b"put".as_slice() {
+        Some(Verb::Put)
+    } else if word == b"get".as_slice() {
+        Some(Verb::Get)
+    } else if word == b"ring".as_slice() {
+        Some(Verb::Ring)
+    } else if word == b"count".as_slice() {
+        Some(Verb::Count)
+    } else {
+        None
     }
-    if word == b"go".as_slice() {
-        let (w, walk) = read_walker_and_walk(alloc, rest)?;
-        return Ok(Command::Go(w, walk));
-    }
-    if word == b"at".as_slice() {
-        return Ok(Command::At(read_walker(rest)?));
-    }
-    if word == b"same".as_slice() {
-        let (w, v) = read_two_walkers(rest)?;
-        return Ok(Command::Same(w, v));
-    }
-    if word == b"level".as_slice() {
-        return Ok(Command::Level(read_walker(rest)?));
-    }
-    if word == b"dist".as_slice() {
-        let (w, v) = read_two_walkers(rest)?;
-        return Ok(Command::Dist(w, v));
-    }
-    if word == b"path".as_slice() {
-        let (w, v) = read_two_walkers(rest)?;
-        return Ok(Command::Path(w, v));
-    }
-    Err(LineFault::Bad)
+}
+
+/// Reads the command of a verb, by what stands behind its word.
+fn read_told(alloc: Global, verb: Verb, rest: &[u8]) -> Result<Command, LineFault>
+    ensures told { IfOk result (IsCommandOf verb rest.now) }
+    ensures bad { IsErrOf result LineFault.Bad → IsNoCommandOf verb rest.now }
+    ensures not_too_long { result ≢ Err LineFault.TooLong }
+{
+    Ok(match verb {
+        Verb::New => Command::New(read_walker(rest)?),
+        Verb::Go => {
+            let (w, walk) = read_walker_and_walk(alloc, rest)?;
+            Command::Go(w, walk)
+        }
+        Verb::At => Command::At(read_walker(rest)?),
+        Verb::Same => {
+            let (w, v) = read_two_walkers(rest)?;
+            Command::Same(w, v)
+        }
+        Verb::Level => Command::Level(read_walker(rest)?),
+        Verb::Dist => {
+            let (w, v) = read_two_walkers(rest)?;
+            Command::Dist(w, v)
+        }
+        Verb::Path => {
+            let (w, v) = read_two_walkers(rest)?;
+            Command::Path(w, v)
+        }
+        Verb::Put => {
+            let (w, text) = read_walker_and_text(alloc, rest)?;
+            Command::Put(w, text)
+        }
+        Verb::Get => Command::Get(read_walker(rest)?),
+        Verb::Ring => Command::Ring(read_distance(rest)?),
+        Verb::Count => Command::Count(read_distance(rest)?),
+    })
 }
 
 /// Reads what a command is told that names one walker.
@@ -145,6 +210,29 @@ fn letters(alloc: Global, text: &[u8]) -> Result<Walk, LineFault>
         Err(WalkFault::Text) => Err(LineFault::Bad),
         Err(WalkFault::Memory) => Err(LineFault::Memory),
     }
+}
+
+/// Reads what a command is told that names a walker and a text: all bytes behind the one space
+/// behind the walker, perhaps none.
+fn read_walker_and_text(alloc: Global, bytes: &[u8]) -> Result<(u8, Bytes), LineFault>
+    ensures ok { IfOk result (λ told. AreToldBy bytes.now (walker_and_text told.0 told.1)) }
+    ensures bad { IsErrOf result LineFault.Bad → TellNothing bytes.now walker_with_text }
+    ensures not_too_long { result ≢ Err LineFault.TooLong }
+{
+    let (w, text) = take_walker(bytes)?;
+    match Bytes::copy_of(alloc, text) {
+        Ok(copy) => Ok((w, copy)),
+        Err(_) => Err(LineFault::Memory),
+    }
+}
+
+/// Reads what a command is told that names a distance from the root.
+fn read_distance(bytes: &[u8]) -> Result<u32, LineFault>
+    ensures ok { IfOk result (λ d. AreToldBy bytes.now (one_distance d)) }
+    ensures bad { IfErr result (λ _. TellNothing bytes.now distance_alone) }
+    ensures err { IfErr result (λ fault. fault ≡ LineFault.Bad) }
+{
+    read_number(bytes).ok_or(LineFault::Bad)
 }
 
 /// The number of a walker in front of the first space, and what stands behind the space.

@@ -1,11 +1,11 @@
 //! The lines of replies, printed.
 ghost use Rattle.std.specs.Prelude.{◌≡◌, ◌∷◌, ◌++◌, codes, decimal, OnOk, OnErr};
 ghost use Rattle.cell_names.specs.Text.{name_text};
-ghost use Rattle.command_text.specs.Replies.{StandsInFront, line_feed, number_words, path_words, place_words, reply_text};
+ghost use Rattle.command_text.specs.Replies.{StandsInFront, line_feed, number_words, path_words, place_words, reply_text, text_words};
 
 use cell_names::{Name, write_name};
 use itoa::Buffer;
-use reply_model::Reply;
+use reply_model::{Bytes, Reply};
 use std::alloc::AllocError;
 use walk_words::{Walk, print_walk};
 
@@ -24,6 +24,8 @@ pub fn bad_line() -> &'static [u8]
 }
 
 /// Appends the line of a reply, with its line feed. Out of memory the bytes are as they were.
+///
+/// Of `Tiles` this is the line that tells how many names follow. The names are not appended.
 pub fn write_reply(out: &mut Vec<u8>, x: &Reply) -> Result<(), AllocError>
     ensures written { OnOk result (out.new.items ≡ out.old.items ++ reply_text x.now) }
     ensures unchanged { OnErr result (out.new.items ≡ out.old.items) }
@@ -46,17 +48,25 @@ fn append_reply(out: &mut Vec<u8>, x: &Reply) -> Result<(), AllocError>
         Reply::At { name, spin, kind } => append_place(out, name, *spin, *kind),
         Reply::Yes => out.extend_from_slice(b"yes\n"),
         Reply::No => out.extend_from_slice(b"no\n"),
-        Reply::Level(crossings) => append_counted(out, b"level", *crossings),
-        Reply::Dist(crossings) => append_counted(out, b"dist", *crossings),
+        Reply::Level(crossings) => append_counted(out, b"level", u128::from(*crossings)),
+        Reply::Dist(crossings) => append_counted(out, b"dist", u128::from(*crossings)),
         Reply::Path(walk) => append_path(out, walk),
         Reply::NoWalker => out.extend_from_slice(b"no walker\n"),
         Reply::Taken => out.extend_from_slice(b"taken\n"),
         Reply::Deep => out.extend_from_slice(b"deep\n"),
+        Reply::Text(text) => append_text(out, text),
+        Reply::NoText => out.extend_from_slice(b"none\n"),
+        Reply::Tiles { size, .. } => append_counted(out, b"tiles", *size),
+        Reply::Count(size) => append_counted(out, b"count", *size),
+        Reply::Long => out.extend_from_slice(b"long\n"),
+        Reply::Far => out.extend_from_slice(b"far\n"),
+        Reply::TooBig(ring) => append_counted(out, b"too big", u128::from(*ring)),
+        Reply::TooMany(size) => append_counted(out, b"too many", *size),
     }
 }
 
-/// Appends the line of a word and a number, or some bytes.
-fn append_counted(out: &mut Vec<u8>, word: &[u8], number: u32) -> Result<(), AllocError>
+/// Appends the line of a word, or of two, and a number, or some bytes.
+fn append_counted(out: &mut Vec<u8>, word: &[u8], number: u128) -> Result<(), AllocError>
     ensures written { OnOk result
         (out.new.items ≡ out.old.items ++ number_words word.now number ++ line_feed) }
     ensures kept { OnErr result (StandsInFront out.new.items out.old.items) }
@@ -80,6 +90,18 @@ fn append_path(out: &mut Vec<u8>, walk: &Walk) -> Result<(), AllocError>
     Ok(())
 }
 
+/// Appends the line of a text, or some bytes.
+fn append_text(out: &mut Vec<u8>, text: &Bytes) -> Result<(), AllocError>
+    ensures written { OnOk result
+        (out.new.items ≡ out.old.items ++ text_words text.now ++ line_feed) }
+    ensures kept { OnErr result (StandsInFront out.new.items out.old.items) }
+{
+    out.extend_from_slice(b"text ")?;
+    out.extend_from_slice(text.as_slice())?;
+    out.push(b'\n')?;
+    Ok(())
+}
+
 /// Appends the line of a place, or some bytes.
 fn append_place(out: &mut Vec<u8>, name: &Name, spin: u8, kind: u8) -> Result<(), AllocError>
     ensures written { OnOk result
@@ -88,14 +110,14 @@ fn append_place(out: &mut Vec<u8>, name: &Name, spin: u8, kind: u8) -> Result<()
 {
     out.extend_from_slice(b"at ")?;
     write_name(out, name)?;
-    append_number(out, b' ', u32::from(spin))?;
-    append_number(out, b' ', u32::from(kind))?;
+    append_number(out, b' ', u128::from(spin))?;
+    append_number(out, b' ', u128::from(kind))?;
     out.push(b'\n')?;
     Ok(())
 }
 
 /// Appends a byte and a number, or some bytes.
-fn append_number(out: &mut Vec<u8>, separator: u8, number: u32) -> Result<(), AllocError>
+fn append_number(out: &mut Vec<u8>, separator: u8, number: u128) -> Result<(), AllocError>
     ensures written { OnOk result (out.new.items ≡ out.old.items ++ separator ∷ decimal number) }
     ensures kept { OnErr result (StandsInFront out.new.items out.old.items) }
 {

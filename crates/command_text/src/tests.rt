@@ -1,7 +1,7 @@
 // Lines read and printed, compared with values from outside.
 use crate::{
-    Command, LONGEST_LINE, LineFault, Reply, bad_line, cut_at, laws, read_line, too_long_line,
-    write_reply,
+    Bytes, Command, LONGEST_LINE, LineFault, Reply, bad_line, cut_at, laws, read_line,
+    too_long_line, write_reply,
 };
 use cell_names::read_name;
 use std::test::Fail;
@@ -21,6 +21,11 @@ fn lines_of_each_form_are_read(rt: HostRuntime) -> Result<(), Fail> {
         ("level 5", Some((4, 5, 0))),
         ("dist 1 0", Some((5, 1, 0))),
         ("path 0 063", Some((6, 0, 63))),
+        ("put 9 a  b ", Some((7, 9, 5))),
+        ("get 063", Some((8, 63, 0))),
+        ("ring 000000020", Some((9, 0, 20))),
+        ("ring 999999999", Some((9, 0, 999_999_999))),
+        ("count 4001", Some((10, 0, 4_001))),
     ] {
         let read = match read_line(alloc, line.as_bytes()) {
             Ok(Command::New(w)) => Some((0, w, 0)),
@@ -30,6 +35,10 @@ fn lines_of_each_form_are_read(rt: HostRuntime) -> Result<(), Fail> {
             Ok(Command::Level(w)) => Some((4, w, 0)),
             Ok(Command::Dist(w, v)) => Some((5, w, usize::from(v))),
             Ok(Command::Path(w, v)) => Some((6, w, usize::from(v))),
+            Ok(Command::Put(w, text)) => Some((7, w, text.as_slice().len())),
+            Ok(Command::Get(w)) => Some((8, w, 0)),
+            Ok(Command::Ring(d)) => Some((9, 0, d as usize)),
+            Ok(Command::Count(d)) => Some((10, 0, d as usize)),
             Err(_) => None,
         };
         assert_eq!(rt; read, want, "{line}");
@@ -63,9 +72,53 @@ fn lines_in_no_form_are_bad(rt: HostRuntime) -> Result<(), Fail> {
         "level",
         "dist 0",
         "path 0 1 2",
+        "put",
+        "put ",
+        "put 0",
+        "put 64 x",
+        "put  0 x",
+        "put x 0",
+        "get",
+        "get 0 ",
+        "get 64",
+        "ring",
+        "ring ",
+        "ring 0000000020",
+        "ring 20 ",
+        "ring  20",
+        "ring 2 0",
+        "count -1",
+        "count +1",
+        "count 1000000000",
+        "count 1.0",
     ] {
         let fault = read_line(alloc, line.as_bytes()).err();
         assert_eq!(rt; fault, Some(LineFault::Bad), "{line}");
+    }
+    Ok(())
+}
+
+#[test]
+fn texts_are_all_that_stands_behind_one_space(rt: HostRuntime) -> Result<(), Fail> {
+    let alloc = rt.alloc();
+    let mut every = Vec::new(alloc);
+    for byte in 0..=255 {
+        every.push(byte)?;
+    }
+    let mut line_of_every = Vec::from_slice(alloc, b"put 0 ")?;
+    line_of_every.extend_from_slice(&every)?;
+    for (line, want) in [
+        (b"put 0 ".as_slice(), b"".as_slice()),
+        (b"put 0  ", b" "),
+        (b"put 0  x", b" x"),
+        (b"put 0 x y", b"x y"),
+        (b"put 0 put 0 ", b"put 0 "),
+        (&line_of_every, &every),
+    ] {
+        let Ok(Command::Put(0, text)) = read_line(alloc, line) else {
+            return Err(Fail::new("no text was read"));
+        };
+        assert_eq!(rt; text.as_slice(), want);
     }
     Ok(())
 }
@@ -116,6 +169,19 @@ fn replies_are_lines(rt: HostRuntime) -> Result<(), Fail> {
         (Reply::NoWalker, "no walker\n"),
         (Reply::Taken, "taken\n"),
         (Reply::Deep, "deep\n"),
+        (Reply::Text(Bytes::copy_of(alloc, b"")?), "text \n"),
+        (Reply::Text(Bytes::copy_of(alloc, b" x")?), "text  x\n"),
+        (Reply::NoText, "none\n"),
+        (Reply::Tiles { d: 2, size: 21 }, "tiles 21\n"),
+        (Reply::Count(0), "count 0\n"),
+        (
+            Reply::Count(u128::MAX),
+            "count 340282366920938463463374607431768211455\n",
+        ),
+        (Reply::Long, "long\n"),
+        (Reply::Far, "far\n"),
+        (Reply::TooBig(92), "too big 92\n"),
+        (Reply::TooMany(716_339_085), "too many 716339085\n"),
     ] {
         let mut text = Vec::new(alloc);
         write_reply(&mut text, &reply)?;

@@ -4,9 +4,11 @@ use Rattle.std.proofs.lemmas.List.{length-append}
 use Rattle.std.specs.Prelude.{Result, Ok, Err, OnOk, OnErr}
 use Rattle.reply_model.specs.declared.Command.{Command}
 use Rattle.reply_model.specs.declared.Command.TheVariants.{New, Go, At, Same, Level, Dist, Path}
+use Rattle.reply_model.specs.declared.Command.TheVariants.{Put, Get, Ring, Count}
 use Rattle.reply_model.specs.declared.Reply.{Reply}
-use Rattle.command_text.specs.CommandLines.{Operands, one_walker, two_walkers, walker_and_walk, AreTold, by_number, by_numbers, by_number_and_letters, IsSpelling, SpellsNothing, most_of_line}
-use Rattle.command_text.specs.Replies.{reply_text}
+use Rattle.command_text.specs.CommandLines.{IsSpelling, SpellsNothing, most_of_line}
+use Rattle.command_text.specs.CommandLines.{Operands, one_walker, two_walkers, walker_and_walk, walker_and_text, one_distance}
+use Rattle.command_text.specs.CommandLines.{AreTold, by_number, by_numbers, by_number_and_letters, by_number_and_text, by_distance}
 use Rattle.session_core.specs.Sessions.{SessionState, HasNumbers, StandsForWalks}
 use Rattle.reply_model.specs.Histories.{History, most_walkers}
 use Rattle.line_server.specs.Outputs.{IsAnswered, too_long, empty, bad, replied, too_long_text, bad_text}
@@ -38,11 +40,15 @@ abbrev AreNumbers : Operands → Type 0
 AreNumbers (one_walker w) = w < most_walkers
 AreNumbers (two_walkers w v) = (w < most_walkers) × (v < most_walkers)
 AreNumbers (walker_and_walk w walk) = w < most_walkers
+AreNumbers (walker_and_text w text) = w < most_walkers
+AreNumbers (one_distance d) = Unit {0}
 
 are_numbers : {told : Operands} {words : List (List ℕ)} → AreTold told words → AreNumbers told
 are_numbers (by_number w digits is) = is.below
 are_numbers (by_numbers w v first second is too) = (is.below, too.below)
 are_numbers (by_number_and_letters w walk digits is) = is.below
+are_numbers (by_number_and_text w text digits is) = is.below
+are_numbers (by_distance d digits is) = tt
 
 pub numbers_told : (text : List ℕ) (c : Command) → IsSpelling text c → HasNumbers c
 numbers_told text (New w) s = are_numbers s.told
@@ -52,6 +58,10 @@ numbers_told text (Same w v) s = are_numbers s.told
 numbers_told text (Level w) s = are_numbers s.told
 numbers_told text (Dist w v) s = are_numbers s.told
 numbers_told text (Path w v) s = are_numbers s.told
+numbers_told text (Put w words) s = are_numbers s.told
+numbers_told text (Get w) s = are_numbers s.told
+numbers_told text (Ring d) s = are_numbers s.told
+numbers_told text (Count d) s = are_numbers s.told
 
 -- a session that stays as it is, and says this to the line
 stays :
@@ -96,27 +106,41 @@ pub is_bad :
     → SpellsNothing text → (h : History) → IsAnswered (answering_of s) h line text bad_text h
 is_bad s line text short some unspelt h = bad short some unspelt
 
-module _ (tells : Bool) (old new : SessionState) (line text taken waiting : List ℕ) (c : Command) (x : Reply) (short : length line ≤ most_of_line) (spelt : IsSpelling text c) (due : (history : History) → StandsForWalks old history → (answering_of old).IsDue history c x) where
-  pub replies :
-      (taken' waiting' : List ℕ)
-      → ((history : History) → StandsForWalks old history → StandsForWalks new (history ++ (c, x) ∷ []))
-      → new.rules ≡ old.rules → new.kind ≡ old.kind
-      → HasSaid tells taken waiting (reply_text x) taken' waiting'
-      → HasReplied tells old line text taken waiting new taken' waiting'
-  replies taken' waiting' stands rules kind said = record {
-    answer = reply_text x;
-    said = said;
-    session =
-        record { rules = rules; kind = kind; stands = λ history here. (history ++ (c, x) ∷ [], replied short c x (reply_text x) spelt (due history here) refl, stands history here) };
-  }
+module _
+    (tells : Bool) (old new : SessionState) (line text taken waiting : List ℕ) (c : Command)
+    (x : Reply) (answer : List ℕ) (short : length line ≤ most_of_line) (spelt : IsSpelling text c)
+    (due :
+    (history : History) → StandsForWalks old history → (answering_of old).IsDue history c x)
+    (said : (history : History) → StandsForWalks old history → (answering_of old).HasText x answer)
+  where
+    answered :
+        (history : History) → StandsForWalks old history →
+        IsAnswered (answering_of old) history line text answer (history ++ (c, x) ∷ [])
+    answered history here =
+        replied short c x answer spelt (due history here) (said history here)
 
-  pub fails_replying :
-      (taken' : List ℕ) → HasBroken tells taken waiting (reply_text x) taken'
-      → HasFailed tells old line text taken waiting taken'
-  fails_replying taken' broken =
-      partly (reply_text x)
-      (λ history here. (history ++ (c, x) ∷ [], replied short c x (reply_text x) spelt (due history here) refl))
-      broken
+    pub replies :
+        (taken' waiting' : List ℕ) →
+        ((history : History) → StandsForWalks old history →
+        StandsForWalks new (history ++ (c, x) ∷ [])) → new.rules ≡ old.rules →
+        new.kind ≡ old.kind → HasSaid tells taken waiting answer taken' waiting' →
+        HasReplied tells old line text taken waiting new taken' waiting'
+    replies taken' waiting' stands rules kind said = record {
+      answer = answer;
+      said = said;
+      session = record {
+        rules = rules;
+        kind = kind;
+        stands = λ history here.
+            (history ++ (c, x) ∷ [], answered history here, stands history here);
+      };
+    }
+
+    pub fails_replying :
+        (taken' : List ℕ) → HasBroken tells taken waiting answer taken' →
+        HasFailed tells old line text taken waiting taken'
+    fails_replying taken' broken =
+        partly answer (λ history here. (history ++ (c, x) ∷ [], answered history here)) broken
 
 -- a line whose beginning was dropped
 pub lost_is_long :

@@ -14,4 +14,7 @@ pub mod SameOutput
 pub mod SomeOutput
 pub mod Due
 pub mod Interleaving
+pub mod ReplyTexts
+pub mod Listing
+pub mod Naming
 pub mod Streams

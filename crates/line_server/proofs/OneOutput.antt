@@ -4,6 +4,7 @@ use Rattle.std.specs.List.{All}
 use Rattle.std.proofs.lemmas.List.{append_assoc, append-nil, length-append}
 use Rattle.reply_model.specs.declared.Command.{Command}
 use Rattle.reply_model.specs.declared.Command.TheVariants.{New, Go, At, Same, Level, Dist, Path}
+use Rattle.reply_model.specs.declared.Command.TheVariants.{Put, Get, Ring, Count}
 use Rattle.reply_model.specs.declared.Reply.{Reply}
 use Rattle.reply_model.specs.Histories.{History}
 use Rattle.command_text.specs.CommandLines.{spaced, IsSpelling}
@@ -28,6 +29,10 @@ nothing_spelt (Same w v) s = some_words 115 (codes "ame") s.words s.text
 nothing_spelt (Level w) s = some_words 108 (codes "evel") s.words s.text
 nothing_spelt (Dist w v) s = some_words 100 (codes "ist") s.words s.text
 nothing_spelt (Path w v) s = some_words 112 (codes "ath") s.words s.text
+nothing_spelt (Put w text) s = some_words 112 (codes "ut") s.words s.text
+nothing_spelt (Get w) s = some_words 103 (codes "et") s.words s.text
+nothing_spelt (Ring d) s = some_words 114 (codes "ing") s.words s.text
+nothing_spelt (Count d) s = some_words 99 (codes "ount") s.words s.text
 
 -- bytes with a front and a longer one
 longer_front : (short long rest more : List ℕ) → short ++ rest ≡ long ++ more → length short ≤ length long → (middle : List ℕ) × (long ≡ short ++ middle) × (rest ≡ middle ++ more)

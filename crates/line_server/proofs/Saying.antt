@@ -119,3 +119,22 @@ pub breaks_at_once :
     (tells : Bool) (taken waiting bytes : List ℕ) → HasBroken tells taken waiting bytes taken
 breaks_at_once tells taken waiting bytes =
     breaks_early tells taken waiting bytes taken (breaks_none tells taken waiting)
+
+-- a prefix of some bytes is one of more bytes
+pub breaks_more :
+    (tells : Bool) (taken waiting bytes more taken' : List ℕ)
+    → HasBroken tells taken waiting bytes taken'
+    → HasBroken tells taken waiting (bytes ++ more) taken'
+breaks_more tells taken waiting bytes more taken' b = λ u.
+    let p = b u in
+    record {
+      rest = p.rest ++ more;
+      sent = record {
+        sent = p.sent.sent;
+        split =
+            sym (append_assoc waiting bytes more)
+            ∙ ap (λ l. l ++ more) p.sent.split
+            ∙ append_assoc p.sent.sent p.rest more;
+        appended = p.sent.appended;
+      };
+    }

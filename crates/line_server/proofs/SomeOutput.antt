@@ -65,7 +65,7 @@ cut_into (byte ∷ bytes) = go (cases_eq byte feed) (cut_into bytes) where
 
 module _ (answering : Answering) (decided : LinesAreDecided)
     (some : (history : History) (c : Command) → (x : Reply) × answering.IsDue history c x)
-    (some_text : (x : Reply) → (bytes : List ℕ) × answering.HasText x bytes) where
+    (some_text : (history : History) (c : Command) (x : Reply) → answering.IsDue history c x → (bytes : List ℕ) × answering.HasText x bytes) where
   -- an answer, and the history behind it
   abbrev Answered : (history : History) (line text : List ℕ) → Type 0
   Answered history line text =
@@ -77,7 +77,7 @@ module _ (answering : Answering) (decided : LinesAreDecided)
   spelt history line text short full (inr nothing) = (bad_text, history, bad short full nothing)
   spelt history line text short full (inl it) =
       let reply = some history it.0 in
-      let words = some_text reply.0 in
+      let words = some_text history it.0 reply.0 reply.1 in
       (words.0, history ++ (it.0, reply.0) ∷ [], replied short it.0 reply.0 words.0 it.1 reply.1 words.1)
 
   of_text :

@@ -1,25 +1,15 @@
 -- The laws of outputs, of the answers over walks and over the tree.
-use Rattle.std.proofs.Common.{◌≡◌, ℕ, List, refl, sym, ◌∙◌}
-use Rattle.tile_model.specs.Tessellations.{TileKind}
-use Rattle.tree_model.specs.Automata.{TreeAutomaton}
 use Rattle.tree_laws.specs.Laws.{OfEachTree}
-use Rattle.reply_model.specs.declared.Reply.{Reply}
 use Rattle.reply_laws.proofs.Together.{replies_agree, one_reply_over_walks, interleavings_over_walks}
-use Rattle.command_text.specs.Replies.{reply_text}
 use Rattle.command_text.specs.Laws.{LinesSpellOne, LinesAreDecided}
-use Rattle.line_server.specs.Answering.{IsReplyText, over_walks, over_tree}
+use Rattle.line_server.specs.Answering.{over_walks, over_tree}
 use Rattle.line_server.specs.Laws.{OutputsAreOne, FrontsBeginOutputs, FrontsBeginWhatIsWithin, OutputsLeadToDue, InterleavingsHaveOneAnswer, OutputsAgree}
 use Rattle.line_server.proofs.SameOutput.{output_again}
 use Rattle.line_server.proofs.SomeOutput.{some_output}
 use Rattle.line_server.proofs.OneOutput.{outputs_are_one, fronts_begin, fronts_begin_within}
 use Rattle.line_server.proofs.Due.{outputs_lead_to_due}
 use Rattle.line_server.proofs.Interleaving.{streams_interleave}
-
--- a reply has one text
-one_text :
-    (kinds : List TileKind) (a : TreeAutomaton) (k : ℕ) (x : Reply) (bytes others : List ℕ)
-    → IsReplyText kinds a k x bytes → IsReplyText kinds a k x others → bytes ≡ others
-one_text kinds a k x bytes others said also = said ∙ sym also
+use Rattle.line_server.proofs.ReplyTexts.{one_text, some_text_over_walks}
 
 pub outputs_agree : OfEachTree OutputsAgree
 outputs_agree kinds a k valid ok known before bytes out after =
@@ -35,7 +25,8 @@ module _ (spelling : LinesSpellOne) where
   one_output decided kinds a k valid ok known =
       let replies = one_reply_over_walks kinds a k valid ok known in
       record {
-        some = some_output (over_walks kinds a k) decided replies.some (λ x. (reply_text x, refl));
+        some = some_output (over_walks kinds a k) decided replies.some
+            (some_text_over_walks kinds a k valid ok known);
         one = outputs_are_one (over_walks kinds a k) spelling replies.one (one_text kinds a k);
       }
 

@@ -1,13 +1,16 @@
 -- What the answers to commands hang on: which reply a command has, and which text a reply has.
-use Rattle.std.specs.Prelude.{◌≡◌, ℕ, List}
+use Rattle.std.specs.Prelude.{◌≡◌, ℕ, List, [], ◌∷◌, ◌++◌, length}
 use Rattle.tile_model.specs.Tessellations.{TileKind}
 use Rattle.tree_model.specs.Automata.{TreeAutomaton}
+use Rattle.tree_model.specs.Names.{IsRing}
+use Rattle.cell_names.specs.Text.{name_text}
 use Rattle.reply_model.specs.declared.Command.{Command}
 use Rattle.reply_model.specs.declared.Reply.{Reply}
+use Rattle.reply_model.specs.declared.Reply.TheVariants.{Tiles}
 use Rattle.reply_model.specs.Histories.{History}
 use Rattle.reply_model.specs.WalkReadings.{IsWalkReply}
 use Rattle.reply_model.specs.TreeReadings.{IsTreeReply}
-use Rattle.command_text.specs.Replies.{reply_text}
+use Rattle.command_text.specs.Replies.{line_feed, reply_text}
 
 pub record Answering : Type 1 where
   -- the reply is due to the command after the history
@@ -15,8 +18,24 @@ pub record Answering : Type 1 where
   -- the bytes are the text of the reply, with what ends its line
   pub HasText : Reply → List ℕ → Type 0
 
--- the text of a reply in the tree of kind k: its line
+-- names, each as a line
+abbrev pub name_lines : List (List ℕ) → List ℕ
+name_lines [] = []
+name_lines (name ∷ names) = (name_text name ++ line_feed) ++ name_lines names
+
+-- In the tree of kind k, the text of the reply that ring d has so many tiles: its line, and behind it
+-- the names of the ring, which are so many.
+pub record IsRingText
+    (kinds : List TileKind) (a : TreeAutomaton) (k d size : ℕ) (text : List ℕ) : Type 0
+  where
+    pub names : List (List ℕ)
+    pub ring : IsRing kinds a k d names
+    pub count : length names ≡ size
+    pub all : text ≡ reply_text (Tiles d size) ++ name_lines names
+
+-- The text of a reply in the tree of kind k: its line, and names behind it where it lists a ring.
 abbrev pub IsReplyText : List TileKind → TreeAutomaton → ℕ → Reply → List ℕ → Type 0
+IsReplyText kinds a k (Tiles d size) text = IsRingText kinds a k d size text
 IsReplyText kinds a k x text = text ≡ reply_text x
 
 -- answers by what walks say

@@ -2,9 +2,11 @@
 ghost use Rattle.std.specs.Prelude.{◌≡◌, ◌≤◌, ◌++◌, [], OnOk, OnErr, IsErrOf, IsTrue};
 ghost use Rattle.way_io.specs.Counts.{Rose};
 ghost use Rattle.way_io.specs.Pieces.{AppendsPrefix};
-ghost use Rattle.command_text.specs.Replies.{reply_text};
+ghost use Rattle.cell_names.specs.Text.{name_text};
+ghost use Rattle.command_text.specs.Replies.{line_feed, reply_text};
 ghost use Rattle.line_server.specs.Outboxes.{HasSaid, HasBroken};
 
+use cell_names::{Name, write_name};
 use command_text::write_reply;
 use reply_model::Reply;
 use std::alloc::AllocError;
@@ -110,6 +112,30 @@ impl<'o, O: Sink> Outbox<'o, O> {
             → Rose (O.faults self.old.sink.now) (O.faults self.new.sink.now) }
     {
         write_reply(self.waiting, x)?;
+        self.write_if_full()?;
+        Ok(())
+    }
+
+    /// Says a name, as a line.
+    ///
+    /// # Errors
+    ///
+    /// As those of `say`.
+    pub(crate) fn say_name(&mut self, name: &Name) -> Result<(), Stop>
+        ensures same_sink { self.new.sink.ghost_name ≡ self.old.sink.ghost_name }
+        ensures same_waiting { self.new.waiting.ghost_name ≡ self.old.waiting.ghost_name }
+        ensures said { OnOk result (HasSaid O.tells
+            (O.taken self.old.sink.now) self.old.waiting.now.items (name_text name.now ++ line_feed)
+            (O.taken self.new.sink.now) self.new.waiting.now.items) }
+        ensures broken { OnErr result (HasBroken O.tells
+            (O.taken self.old.sink.now) self.old.waiting.now.items (name_text name.now ++ line_feed)
+            (O.taken self.new.sink.now)) }
+        ensures later { O.faults self.old.sink.now ≤ O.faults self.new.sink.now }
+        ensures cause { IsErrOf result Stop.Write
+            → Rose (O.faults self.old.sink.now) (O.faults self.new.sink.now) }
+    {
+        write_name(self.waiting, name)?;
+        self.waiting.extend_from_slice(b"\n")?;
         self.write_if_full()?;
         Ok(())
     }

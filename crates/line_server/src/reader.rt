@@ -2,6 +2,7 @@
 //! ended.
 ghost use Rattle.std.specs.Prelude.{◌≡◌, ◌≤◌, ◌<◌, ◌+◌, ◌++◌, [], ℕ, List, length, take, drop, IfOk, OnOk, OnErr, IsErrOf, IsTrue};
 ghost use Rattle.way_io.specs.Counts.{Rose};
+ghost use Rattle.lazy_map.specs.Texts.{most_texts};
 ghost use Rattle.line_server.specs.Lines.{LacksFeed};
 ghost use Rattle.line_server.specs.Readers.{IsReader, Keeps, AreDropped, HasComeTo, HasRead, HasStopped, HasEnded, HasFailed, HasReplied, IsTextBehind, behind, buffer_size};
 
@@ -30,6 +31,7 @@ impl Reader {
     pub(crate) fn new(alloc: Global) -> Result<Reader, AllocError>
         ensures shape { IfOk result IsReader }
         ensures nothing { IfOk result (λ r. Keeps r []) }
+        ensures empty { IfOk result (λ r. r.kept ≡ 0) }
     {
         Ok(Reader {
             buffer: vec![in alloc; 0; BUFFER_SIZE]?,
@@ -42,6 +44,7 @@ impl Reader {
     pub(crate) fn read<I: Source>(&mut self, input: &mut I) -> Result<usize, ReadFault>
         requires { IsReader self.old }
         ensures shape { IsReader self.new }
+        ensures kept { self.new.kept ≡ self.old.kept }
         ensures keeps { (line : List ℕ) → Keeps self.old line → Keeps self.new line }
         ensures within { IfOk result (λ n. self.new.kept + n ≤ buffer_size) }
         ensures next { IsTrue I.tells → IfOk result (λ n. I.left input.old
@@ -65,7 +68,10 @@ impl Reader {
     ) -> Result<(), Stop>
         requires shape { IsReader self.old }
         requires within { self.old.kept + fresh ≤ buffer_size }
+        requires room { length session.old.texts + (self.old.kept + fresh) < most_texts }
         requires written { outbox.old.waiting.now.items ≡ [] }
+        ensures few { OnOk result (length session.new.texts + self.new.kept
+            ≤ length session.old.texts + (self.old.kept + fresh)) }
         ensures same_sink { outbox.new.sink.ghost_name ≡ outbox.old.sink.ghost_name }
         ensures same_waiting { outbox.new.waiting.ghost_name ≡ outbox.old.waiting.ghost_name }
         ensures shape { OnOk result (IsReader self.new) }
@@ -94,6 +100,7 @@ impl Reader {
         requires shape { IsReader self.old }
         requires within { rest ≤ end }
         requires size { end ≤ buffer_size }
+        ensures few { self.new.kept ≤ rest }
         ensures shape { IsReader self.new }
         ensures keeps { (dropped : List ℕ) → AreDropped lost dropped
             → LacksFeed (dropped ++ behind rest (take end self.old.buffer.items))
@@ -117,6 +124,7 @@ impl Reader {
         outbox: &mut Outbox<'_, O>,
     ) -> Result<(), Stop>
         requires shape { IsReader self.now }
+        requires room { length session.old.texts + self.now.kept < most_texts }
         requires written { outbox.old.waiting.now.items ≡ [] }
         ensures same_sink { outbox.new.sink.ghost_name ≡ outbox.old.sink.ghost_name }
         ensures same_waiting { outbox.new.waiting.ghost_name ≡ outbox.old.waiting.ghost_name }
@@ -147,7 +155,10 @@ fn answer_lines<O: Sink>(
     lost: bool,
     outbox: &mut Outbox<'_, O>,
 ) -> Result<(usize, bool), Stop>
+    requires room { length session.old.texts + length bytes.now < most_texts }
     requires written { outbox.old.waiting.now.items ≡ [] }
+    ensures few { IfOk result (λ end.
+        length session.new.texts + end.0 ≤ length session.old.texts + length bytes.now) }
     ensures same_sink { outbox.new.sink.ghost_name ≡ outbox.old.sink.ghost_name }
     ensures same_waiting { outbox.new.waiting.ghost_name ≡ outbox.old.waiting.ghost_name }
     ensures behind { IfOk result (λ end. end.0 ≤ length bytes.now) }
@@ -182,7 +193,9 @@ fn answer_end<O: Sink>(
     lost: bool,
     outbox: &mut Outbox<'_, O>,
 ) -> Result<(), Stop>
-    requires { length text.now ≤ length line.now }
+    requires within { length text.now ≤ length line.now }
+    requires room { length session.old.texts < most_texts }
+    ensures few { length session.new.texts ≤ length session.old.texts + length line.now }
     ensures same_sink { outbox.new.sink.ghost_name ≡ outbox.old.sink.ghost_name }
     ensures same_waiting { outbox.new.waiting.ghost_name ≡ outbox.old.waiting.ghost_name }
     ensures replied { (dropped whole : List ℕ) → AreDropped lost dropped

@@ -1,6 +1,7 @@
 //! The stream from its source to its sink.
-ghost use Rattle.std.specs.Prelude.{◌≡◌, ◌≤◌, ◌<◌, [], ℕ, List, length, IsTrue};
+ghost use Rattle.std.specs.Prelude.{◌≡◌, ◌≤◌, ◌<◌, ◌+◌, [], ℕ, List, length, IsTrue};
 ghost use Rattle.way_io.specs.Counts.{Rose};
+ghost use Rattle.lazy_map.specs.Texts.{most_texts};
 ghost use Rattle.session_core.specs.Sessions.{StandsForWalks};
 ghost use Rattle.line_server.specs.Lines.{most_of_stream};
 ghost use Rattle.reply_model.specs.Histories.{History};
@@ -38,13 +39,16 @@ pub enum Ending {
 ///
 /// A line ends at a line feed, and a carriage return in front of it belongs to the line's end. What
 /// stands behind the last line feed is a line too. A line of no bytes has no answer, one of over
-/// 8,192 bytes is answered `too long`, and one in no form `bad`.
+/// 8,192 bytes is answered `too long`, and one in no form `bad`. Before the stream at least 268,435,456
+/// texts fewer are on tiles than the 4,294,967,295 that there can be.
 pub fn serve<I: Source, O: Sink>(
     alloc: Global,
     session: &mut Session<'_>,
     input: &mut I,
     out: &mut O,
 ) -> Ending
+    requires { length session.old.texts + most_of_stream < most_texts }
+
     // What stands at each ending, after each history for which the session stood.
     // The session stands then for a longer one.
     ensures done { IsTrue I.tells → IsTrue O.tells → result ≡ Ending.Done
@@ -91,6 +95,7 @@ fn serve_through<I: Source, O: Sink>(
     out: &mut O,
     waiting: &mut Vec<u8>,
 ) -> Ending
+    requires room { length session.old.texts + most_of_stream < most_texts }
     requires written { waiting.old.items ≡ [] }
     ensures ends { EndsAs I.tells O.tells
         session.old (I.left input.old) (O.taken out.old)
@@ -112,6 +117,7 @@ fn serve_lines<I: Source, O: Sink>(
     input: &mut I,
     outbox: &mut Outbox<'_, O>,
 ) -> Ending
+    requires room { length session.old.texts + most_of_stream < most_texts }
     requires written { outbox.old.waiting.now.items ≡ [] }
     ensures same_sink { outbox.new.sink.ghost_name ≡ outbox.old.sink.ghost_name }
     ensures same_waiting { outbox.new.waiting.ghost_name ≡ outbox.old.waiting.ghost_name }

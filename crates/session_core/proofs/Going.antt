@@ -1,7 +1,7 @@
 -- What the calls of a session come to, by the spots that they look up and leave behind.
-use Rattle.std.proofs.Common.{◌≡◌, ℕ, zero, suc, ◌<◌, ◌⊎◌, inl, inr, true, false, List, [], length, replicate, set, get_or, refl, sym, ap, ◌∙◌, subst, arith, true≢false}
+use Rattle.std.proofs.Common.{◌≡◌, ◌≢◌, ◌↔◌, ℕ, zero, suc, ◌<◌, ◌≤◌, ◌⊎◌, inl, inr, true, false, List, [], length, replicate, set, get_or, refl, sym, ap, ◌∙◌, subst, arith, true≢false}
 use Rattle.std.specs.Prelude.{Option, None, Some, is_some, IsSome, MatchOption, Result, Ok, Err, IfOk, OnErr, IsErrOf}
-use Rattle.std.proofs.lemmas.Bool.{false≢true}
+use Rattle.std.proofs.lemmas.Bool.{false≢true, cases_lt}
 use Rattle.std.proofs.lemmas.List.{get_or_default, set-get_or, length-replicate}
 use Rattle.tile_model.specs.declared.Letter.{Letter}
 use Rattle.tree_model.specs.Automata.{state_at}
@@ -12,19 +12,25 @@ use Rattle.turn_rules.specs.Spots.{TreeSpot, IsSpot, IsAt, position, root_kind, 
 use Rattle.step_engine.specs.Crossings.{WalksDeep, WalkLeadsTo}
 use Rattle.step_engine.specs.declared.fault.StepFault.{StepFault}
 use Rattle.step_engine.specs.declared.fault.StepFault.TheVariants.{Deep as TooDeep, Memory}
+use Rattle.lazy_map.specs.declared.map.PutFault.{PutFault}
+use Rattle.lazy_map.specs.declared.map.PutFault.TheVariants.{Long as TooLong}
 use Rattle.reply_model.specs.declared.Command.{Command}
-use Rattle.reply_model.specs.declared.Command.TheVariants.{New, Go, At}
+use Rattle.reply_model.specs.declared.Command.TheVariants.{New, Go, At, Put, Get}
 use Rattle.reply_model.specs.declared.Reply.{Reply}
-use Rattle.reply_model.specs.declared.Reply.TheVariants.{Done, At as AtPlace, NoWalker, Deep}
+use Rattle.reply_model.specs.declared.Reply.TheVariants.{Done, At as AtPlace, NoWalker, Deep, Long}
 use Rattle.reply_model.specs.Histories.{History, most_walkers}
-use Rattle.session_core.specs.Sessions.{SessionState, walker_at, IsWalker, IsSession, Stands}
+use Rattle.lazy_map.specs.Texts.{Texts, text_under}
+use Rattle.reply_model.specs.Texts.{longest_text}
+use Rattle.session_core.specs.Sessions.{SessionState, walker_at, IsWalker, IsSession, IsKept, Stands}
 use Rattle.session_core.specs.Sessions.{StandsFor, StandsForWalks}
 use Rattle.session_core.specs.Sessions.{IsDueOverWalks, IsDueOverTree}
 use Rattle.session_core.specs.Answered.{HasAnswered, extended}
 use Rattle.reply_laws.proofs.Histories.{none_due}
+use Rattle.reply_laws.proofs.Texts.{blank_at_first}
 use Rattle.reply_model.specs.Readings.{Reading}
 use Rattle.reply_model.specs.Replies.{IsReply}
-use Rattle.session_core.proofs.Steps.{with_walker, made, go_nobody, stopped, gone, at_spot}
+use Rattle.session_core.proofs.Steps.{with_walker, with_texts, HasPut, told_text, made, go_nobody, stopped, gone, at_spot}
+use Rattle.session_core.proofs.Steps.{put_nobody, put_long, put_written, get_told}
 use Rattle.session_core.proofs.Depth.{has_gone}
 use Rattle.session_core.proofs.Standing.{answered, put_session}
 
@@ -43,10 +49,15 @@ none_there f (Some s) r m e = absurd (true≢false e)
 
 -- the session with another entry for walker w
 abbrev pub with_entry : SessionState → ℕ → Option TreeSpot → SessionState
-with_entry s w o = record { rules = s.rules; kind = s.kind; walkers = set s.walkers w o }
+with_entry s w o = record {
+  rules = s.rules;
+  kind = s.kind;
+  walkers = set s.walkers w o;
+  texts = s.texts;
+}
 
 abbrev with_list : SessionState → List (Option TreeSpot) → SessionState
-with_list s l = record { rules = s.rules; kind = s.kind; walkers = l }
+with_list s l = record { rules = s.rules; kind = s.kind; walkers = l; texts = s.texts }
 
 -- an entry that was read, and one that is written back
 pub held :
@@ -183,8 +194,9 @@ empty_session s sound known e = record {
 
 -- by each reading, it stands for the empty history
 pub empty_stands :
-    (r : Reading) (s : SessionState) → s.walkers ≡ replicate most_walkers None → Stands r s []
-empty_stands r s e = record {
+    (r : Reading) (s : SessionState) → s.walkers ≡ replicate most_walkers None → s.texts ≡ [] →
+    Stands r s []
+empty_stands r s e blank = record {
   replies = none_due (IsReply s.rules.kinds s.kind r);
   walkers =
       λ w. (
@@ -193,6 +205,8 @@ empty_stands r s e = record {
             (omega (arith, x.1)),
       );
   spots = λ w p f. absurd (no_spot s w p e f);
+  texts = λ u p led.
+      subst (λ texts. IsKept r [] u (text_under texts p.name)) (sym blank) (blank_at_first r u);
 }
 
 -- the answer to a command that is known in another way
@@ -234,3 +248,72 @@ module _ {E : Type 0} (old new : SessionState) (c : Command) where
       IfOk r (λ x. (h : History) → StandsForWalks old h → StandsForWalks new (extended h c x))
   answered_stands_over_walks (Ok x) a = a.stands_over_walks
   answered_stands_over_walks (Err y) a = tt
+
+-- what is told of the text on the tile of a walker
+pub has_text :
+    (s : SessionState) → IsSession s → (w : ℕ) → w < most_walkers → (p : TreeSpot) →
+    walker_at s w ≡ Some p → (o : Option (List ℕ)) → text_under s.texts p.name ≡ o →
+    HasAnswered s (Get w) (told_text o) s
+has_text s is w below p some o e =
+    subst (λ o. HasAnswered s (Get w) (told_text o) s) e
+    (answered s (Get w) (told_text (text_under s.texts p.name)) s is below (get_told w p some))
+
+-- a text that is written, and one that is refused
+module _
+    (s : SessionState) (is : IsSession s) (w : ℕ) (below : w < most_walkers) (text : List ℕ)
+  where
+    pub nobody_puts : walker_at s w ≡ None → HasAnswered s (Put w text) NoWalker s
+    nobody_puts none = answered s (Put w text) NoWalker s is below (put_nobody w text none)
+
+    pub has_put :
+        (p : TreeSpot) (texts : Texts) → walker_at s w ≡ Some p → length text ≤ longest_text →
+        HasPut s.texts p.name text texts → HasAnswered s (Put w text) Done (with_texts s texts)
+    has_put p texts some short puts =
+        answered s (Put w text) Done (with_texts s texts) is below
+        (put_written w text p texts some short puts)
+
+    pub has_refused :
+        (p : TreeSpot) → walker_at s w ≡ Some p → longest_text < length text →
+        HasAnswered s (Put w text) Long s
+    has_refused p some long = answered s (Put w text) Long s is below (put_long w text p some long)
+
+-- a session with other texts
+pub texts_session : (s : SessionState) (texts : Texts) → IsSession s → IsSession (with_texts s texts)
+texts_session s texts is =
+    record { sound = is.sound; known = is.known; places = is.places; spots = is.spots }
+
+-- what a look-up of the text under a name gives
+pub text_seen :
+    (s : SessionState) (texts : Texts) (name other : List ℕ) (r o : Option (List ℕ)) →
+    texts ≡ s.texts → other ≡ name → r ≡ text_under texts other → r ≡ o →
+    text_under s.texts name ≡ o
+text_seen s texts name other r o e f g h =
+    ap (text_under s.texts) (sym f) ∙ ap (λ l. text_under l other) (sym e) ∙ sym g ∙ h
+
+-- the outcome of a writing
+pub was_short :
+    (r : Result (Unit {0}) PutFault) (x : Unit {0}) (text : List ℕ) → r ≡ Ok x →
+    IsErrOf r TooLong ↔ (longest_text < length text) → length text ≤ longest_text
+was_short r x text e long = go (cases_lt longest_text (length text))
+  where
+    go : (longest_text < length text) ⊎ (length text ≤ longest_text) → length text ≤ longest_text
+    go (inl lt) = let f = long.1 lt in absurd (cc (e, f))
+    go (inr le) = le
+
+pub texts_stayed :
+    (s : SessionState) (r : Result (Unit {0}) PutFault) (f : PutFault) (texts : Texts) →
+    r ≡ Err f → OnErr r (texts ≡ s.texts) → with_texts s texts ≡ s
+texts_stayed s r f texts e u =
+    let same : texts ≡ s.texts =
+    subst (λ (r : Result (Unit {0}) PutFault). OnErr r (texts ≡ s.texts)) e u in
+    ap (with_texts s) same
+
+pub puts_seen :
+    (before after : Texts) (name other text bytes : List ℕ) → other ≡ name → bytes ≡ text →
+    text_under after other ≡ Some bytes →
+    ((n : List ℕ) → n ≢ other → text_under after n ≡ text_under before n) →
+    HasPut before name text after
+puts_seen before after name other text bytes e f put others = record {
+  put = ap (text_under after) (sym e) ∙ put ∙ ap Some f;
+  others = λ n differs. others n (λ same. differs (same ∙ e));
+}

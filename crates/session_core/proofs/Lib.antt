@@ -4,3 +4,4 @@ pub mod Telling
 pub mod Standing
 pub mod Comparing
 pub mod Going
+pub mod Measuring

@@ -1,9 +1,12 @@
 -- What a command does to a session: the reply is the one that is due.
 -- And the session stands for the longer history.
-use Rattle.std.proofs.Common.{◌≡◌, ℕ, ◌<◌, ◌==◌, ◌↔◌, inl, inr, List, [], ◌∷◌, ◌++◌, length, refl, sym, ap, ◌∙◌, subst, ⊎_elim, ne_eqb, eq-eqb, length-set, get_or-set_same, get_or-set_other}
-use Rattle.std.specs.Prelude.{None, Some, is_some, IsSome, unwrap_or}
+use Rattle.std.proofs.Common.{◌≡◌, ◌≢◌, ℕ, ◌<◌, ◌≤◌, ◌==◌, ◌↔◌, ◌⊎◌, inl, inr, true, false, Bool, List, [], ◌∷◌, ◌++◌, length, refl, sym, ap, ◌∙◌, subst, ⊎_elim, ne_eqb, eq-eqb, length-set, get_or-set_same, get_or-set_other}
+use Rattle.std.specs.Prelude.{Option, None, Some, is_some, IsSome, unwrap_or}
+use Rattle.std.specs.Str.{bytes_eq}
+use Rattle.std.proofs.lemmas.Slice.Eq.{bytes_eq-Decides}
 use Rattle.std.proofs.lemmas.Bool.{cases_eq, cond-true, cond-false, both_ways}
 use Rattle.tile_model.specs.declared.Letter.{Letter}
+use Rattle.tile_model.specs.Tessellations.{TileKind}
 use Rattle.tile_model.specs.Walks.{type_of}
 use Rattle.tree_model.specs.Automata.{state_at}
 use Rattle.tree_model.specs.Names.{state_of}
@@ -12,25 +15,29 @@ use Rattle.structure_check.specs.Rules.{AreSound}
 use Rattle.turn_rules.specs.Spots.{TreeSpot, position, tile_state}
 use Rattle.tree_laws.proofs.Walking.{leads_append, leads_same}
 use Rattle.reply_model.specs.declared.Command.{Command}
-use Rattle.reply_model.specs.declared.Command.TheVariants.{New, Go, At, Same, Level, Dist, Path}
+use Rattle.reply_model.specs.declared.Command.TheVariants.{New, Go, At, Same, Level, Dist, Path, Put, Get}
 use Rattle.reply_model.specs.declared.Reply.{Reply}
-use Rattle.reply_model.specs.declared.Reply.TheVariants.{Done, At as AtPlace, Yes, No, NoWalker, Taken, Deep}
+use Rattle.reply_model.specs.declared.Reply.TheVariants.{Done, At as AtPlace, Yes, No, NoWalker, Taken, Deep, Long}
 use Rattle.reply_model.specs.declared.Reply.TheVariants.{Level as AtLevel, Dist as Apart, Path as Along}
 use Rattle.reply_model.specs.Histories.{History, most_walkers, Exists, letters_for, walk_of}
 use Rattle.reply_model.specs.Readings.{Reading}
 use Rattle.reply_model.specs.Replies.{new_taken, new_made, go_nobody, go_deep, go_gone, at_nobody, at_place, same_nobody, same_tile, other_tile}
 use Rattle.reply_model.specs.Replies.{level_nobody, dist_nobody, path_nobody}
+use Rattle.reply_model.specs.Replies.{put_nobody, put_long, put_written, get_nobody, get_text, get_nothing}
+use Rattle.reply_model.specs.Texts.{longest_text, IsLastText, IsBlank}
 use Rattle.reply_model.specs.TreeReadings.{LeadsTo, LeadToOneName}
 use Rattle.reply_laws.specs.Laws.{SayTheSame}
-use Rattle.reply_laws.proofs.Alike.{EndsAreKnown, the_other_way, read_again}
+use Rattle.reply_laws.proofs.Alike.{EndsAreKnown, the_other_way, last_alike, blank_alike, read_again}
+use Rattle.reply_laws.proofs.Texts.{Writes, last_now, last_stays, blank_stays}
 use Rattle.reply_laws.proofs.Events.{Event, walk_push, walk_stays, exists_push, exists_made, exists_before}
 use Rattle.reply_laws.proofs.Histories.{unborn, due_push}
 use Rattle.tree_laws.proofs.Together.{walks_one_place, state_kinds}
-use Rattle.session_core.specs.Sessions.{SessionState, walker_at, IsWalker, IsSession, HasNumbers, Stands}
+use Rattle.lazy_map.specs.Texts.{Texts, text_under}
+use Rattle.session_core.specs.Sessions.{SessionState, walker_at, IsWalker, IsSession, HasNumbers, IsKept, Stands}
 use Rattle.session_core.specs.Sessions.{session_over_walks, session_over_tree, StandsForWalks, StandsFor, IsDueOverTree}
 use Rattle.session_core.specs.Answered.{HasAnswered}
 use Rattle.session_core.proofs.Steps as steps
-use Rattle.session_core.proofs.Steps.{Does, HasGone, with_walker}
+use Rattle.session_core.proofs.Steps.{Does, HasGone, HasPut, with_walker, with_texts, told_text}
 use Rattle.session_core.proofs.Depth.{goes_deep, deep_goes}
 use Rattle.session_core.proofs.Telling.{readings, ends, level_due, far_due, far_path_due, apart_due, along_due}
 
@@ -43,31 +50,46 @@ the_spot {s} e = ap (λ o. unwrap_or o s) e
 
 abbrev number : Command → ℕ
 number (New w) = w
+number (Put w text) = w
 number _ = 0
 
 the_number : {w v : ℕ} → New w ≡ New v → w ≡ v
 the_number f = ap number f
 
-taken_is_not_done : Taken ≡ Done → ⊥
-taken_is_not_done e = absurd (cc)
+-- a reply other than `ok` adds no letters
+no_letters : (v : ℕ) (c : Command) (x : Reply) → (x ≡ Done → ⊥) → letters_for v c x ≡ []
+no_letters v (Go w u) Done n = absurd (n refl)
+no_letters v _ _ n = refl
 
-go_is_not_new : (w v : ℕ) (u : List Letter) → Go w u ≡ New v → ⊥
-go_is_not_new w v u e = absurd (cc)
+-- The event writes no text.
+abbrev WritesNot : Command → Reply → Type 0
+WritesNot c x = (v : ℕ) (text : List ℕ) → ◌≡◌ {A = Event} (c, x) (Put v text, Done) → ⊥
 
-at_is_not_new : (w v : ℕ) → At w ≡ New v → ⊥
-at_is_not_new w v e = absurd (cc)
+-- where nothing is written, what is kept stays
+kept_stays :
+    (r : Reading) (h : History) (c : Command) (x : Reply) (u : List Letter) →
+    ((text : List ℕ) → Writes r h (c, x) u text → ⊥) → (o : Option (List ℕ)) → IsKept r h u o →
+    IsKept r (h ++ (c, x) ∷ []) u o
+kept_stays r h c x u nothing None k = blank_stays r h (c, x) u nothing k
+kept_stays r h c x u nothing (Some text) k = last_stays r h (c, x) u nothing text k
 
-same_is_not_new : (w v i : ℕ) → Same w v ≡ New i → ⊥
-same_is_not_new w v i e = absurd (cc)
+kept_alike :
+    {kinds : List TileKind} {r t : Reading} → SayTheSame kinds r t → (h : History)
+    (u : List Letter) (o : Option (List ℕ)) → IsKept r h u o → IsKept t h u o
+kept_alike same h u None k = blank_alike same h u k
+kept_alike same h u (Some text) k = last_alike same h u text k
 
-level_is_not_new : (w v : ℕ) → Level w ≡ New v → ⊥
-level_is_not_new w v e = absurd (cc)
+told_not_done : (o : Option (List ℕ)) → told_text o ≡ Done → ⊥
+told_not_done None e = absurd (cc)
+told_not_done (Some text) e = absurd (cc)
 
-dist_is_not_new : (w v i : ℕ) → Dist w v ≡ New i → ⊥
-dist_is_not_new w v i e = absurd (cc)
-
-path_is_not_new : (w v i : ℕ) → Path w v ≡ New i → ⊥
-path_is_not_new w v i e = absurd (cc)
+-- names are the same or not
+same_name : (m n : List ℕ) → (m ≡ n) ⊎ (m ≢ n)
+same_name m n = test (bytes_eq m n) (bytes_eq-Decides m n)
+  where
+    test : (b : Bool) → (b ≡ true → m ≡ n) × (m ≡ n → b ≡ true) → (m ≡ n) ⊎ (m ≢ n)
+    test true d = inl (d.0 refl)
+    test false d = inr (λ e. both_ways false refl (d.1 e))
 
 module _ (s : SessionState) (is : IsSession s) (h : History) (stands : StandsFor s h) where
   abbrev Led : List Letter → TreeSpot → Type 0
@@ -93,14 +115,24 @@ module _ (s : SessionState) (is : IsSession s) (h : History) (stands : StandsFor
       walker_at s v ≡ Some p → Led (walk_of (h ++ (c, x) ∷ []) v) p
   same_walk c x v p e f = subst (λ u. Led u p) (sym (walk_stays h c x v e)) (stands.spots v p f)
 
-  -- a command that leaves all spots as they are
+  -- where the event writes nothing, the texts are kept
+  same_texts :
+      (c : Command) (x : Reply) → WritesNot c x → (u : List Letter) (p : Position) →
+      LeadsTo s.rules.kinds s.rules.automaton s.kind u p →
+      IsKept (session_over_tree s) (h ++ (c, x) ∷ []) u (text_under s.texts p.name)
+  same_texts c x writes u p led =
+      kept_stays (session_over_tree s) h c x u (λ text w. writes w.walker text w.event)
+      (text_under s.texts p.name) (stands.texts u p led)
+
+  -- a command with another reply than `ok` leaves all as it is
   idle :
-      (c : Command) (x : Reply) → IsDueOverTree s h c x → ((v : ℕ) → letters_for v c x ≡ []) →
-      ((v : ℕ) → MakesNot c x v) → StandsFor s (h ++ (c, x) ∷ [])
-  idle c x due letters makes = record {
+      (c : Command) (x : Reply) → IsDueOverTree s h c x → (x ≡ Done → ⊥) →
+      StandsFor s (h ++ (c, x) ∷ [])
+  idle c x due n = record {
     replies = due_push (IsDueOverTree s) h c x stands.replies due;
-    walkers = λ v. same_exists c x v (makes v);
-    spots = λ v p e. same_walk c x v p (letters v) e;
+    walkers = λ v. same_exists c x v (λ e. n (ap (λ (f : Event). f.1) e));
+    spots = λ v p e. same_walk c x v p (no_letters v c x n) e;
+    texts = same_texts c x (λ v text e. n (ap (λ (f : Event). f.1) e));
   }
 
   put_same : (w : ℕ) (q : TreeSpot) → w < most_walkers → walker_at (with_walker s w q) w ≡ Some q
@@ -112,12 +144,12 @@ module _ (s : SessionState) (is : IsSession s) (h : History) (stands : StandsFor
   put_other w v q n = get_or-set_other s.walkers w v (Some q) None (λ e. n (sym e))
 
   -- a command that puts walker w to another spot
-  put :
+  moved :
       (c : Command) (x : Reply) (w : ℕ) (q : TreeSpot) → w < most_walkers → IsDueOverTree s h c x →
       Exists (h ++ (c, x) ∷ []) w → Led (walk_of (h ++ (c, x) ∷ []) w) q →
       ((v : ℕ) → (w ≡ v → ⊥) → letters_for v c x ≡ []) → ((v : ℕ) → (w ≡ v → ⊥) → MakesNot c x v) →
-      StandsFor (with_walker s w q) (h ++ (c, x) ∷ [])
-  put c x w q below due exists led letters makes = record {
+      WritesNot c x → StandsFor (with_walker s w q) (h ++ (c, x) ∷ [])
+  moved c x w q below due exists led letters makes writes = record {
     replies = due_push (IsDueOverTree s) h c x stands.replies due;
     walkers =
         λ v. ⊎_elim (λ e. walker_here v e)
@@ -126,6 +158,7 @@ module _ (s : SessionState) (is : IsSession s) (h : History) (stands : StandsFor
     spots =
         λ v p f. ⊎_elim (λ e. spot_here v p f e)
         (λ n. same_walk c x v p (letters v n) (sym (put_other w v q n) ∙ f)) (cases_eq w v);
+    texts = same_texts c x writes;
   }
     where
       walker_here :
@@ -227,6 +260,84 @@ module _ (s : SessionState) (is : IsSession s) (h : History) (stands : StandsFor
       unborn s.rules.kinds s.kind (session_over_tree s) h w stands.replies (nobody w e) in
       subst (λ l. Led l q) (sym (walk_stays h (New w) Done w refl ∙ none)) (sym at)
 
+  abbrev Reads : Reading
+  Reads = session_over_tree s
+
+  -- two walks that lead to one name are together
+  named :
+      (u w : List Letter) (p q : Position) →
+      LeadsTo s.rules.kinds s.rules.automaton s.kind u p →
+      LeadsTo s.rules.kinds s.rules.automaton s.kind w q → p.name ≡ q.name → Reads.AreTogether u w
+  named u w p q l m e =
+      record { first = p; second = q; first_led = l; second_led = m; one_name = e }
+
+  -- a text that is written on the tile of a spot
+  module _
+      (w : ℕ) (text : List ℕ) (p : TreeSpot) (texts : Texts) (at : walker_at s w ≡ Some p)
+      (puts : HasPut s.texts p.name text texts)
+    where
+      -- on its tile, the text is the last
+      written_here :
+          (u : List Letter) (q : Position) →
+          LeadsTo s.rules.kinds s.rules.automaton s.kind u q → q.name ≡ p.name →
+          IsKept Reads (h ++ (Put w text, Done) ∷ []) u (text_under texts q.name)
+      written_here u q led e =
+          let there = named (walk_of h w) u (position p) q (stands.spots w p at) led (sym e) in
+          let now : Writes Reads h (Put w text, Done) u text =
+          record { walker = w; event = refl; there = there } in
+          subst (IsKept Reads (h ++ (Put w text, Done) ∷ []) u)
+          (sym (ap (text_under texts) e ∙ puts.put))
+          (last_now Reads h (Put w text, Done) u text now)
+
+      -- on other tiles, nothing is written
+      written_elsewhere :
+          (u : List Letter) (q : Position) →
+          LeadsTo s.rules.kinds s.rules.automaton s.kind u q → q.name ≢ p.name →
+          IsKept Reads (h ++ (Put w text, Done) ∷ []) u (text_under texts q.name)
+      written_elsewhere u q led n =
+          subst (IsKept Reads (h ++ (Put w text, Done) ∷ []) u) (sym (puts.others q.name n))
+          (kept_stays Reads h (Put w text) Done u nothing (text_under s.texts q.name)
+          (stands.texts u q led))
+        where
+          one_walker : (v : ℕ) (other : List ℕ) → Put w text ≡ Put v other → w ≡ v
+          one_walker v other e = ap number e
+
+          nothing : (other : List ℕ) → Writes Reads h (Put w text, Done) u other → ⊥
+          nothing other x =
+              let same = one_walker x.walker other (ap (λ (e : Event). e.0) x.event) in
+              let t : LeadToOneName s.rules.kinds s.rules.automaton s.kind (walk_of h w) u =
+              subst (λ v. Reads.AreTogether (walk_of h v) u) (sym same) x.there in
+              let first = one_end w p t.first at t.first_led in
+              let second =
+              leads_same s.rules.kinds s.rules.automaton s.kind is.sound.valid is.sound.accepted
+              is.known u root t.second q t.second_led led in
+              n (sym (ap (λ (i : Position). i.name) second) ∙ sym t.one_name ∙
+              ap (λ (i : Position). i.name) first)
+
+      written :
+          length text ≤ longest_text → StandsFor (with_texts s texts) (h ++ (Put w text, Done) ∷ [])
+      written short = record {
+        replies =
+            due_push (IsDueOverTree s) h (Put w text) Done stands.replies
+            (put_written w text (there w p at) short);
+        walkers = λ v. same_exists (Put w text) Done v (λ e.
+            let no : Put w text ≡ New v = ap (λ (f : Event). f.0) e in absurd (cc));
+        spots = λ v q f. same_walk (Put w text) Done v q refl f;
+        texts = λ u q led. ⊎_elim (written_here u q led) (written_elsewhere u q led)
+            (same_name q.name p.name);
+      }
+
+  get_due :
+      (w : ℕ) (p : TreeSpot) → walker_at s w ≡ Some p →
+      IsDueOverTree s h (Get w) (told_text (text_under s.texts p.name))
+  get_due w p e = go (text_under s.texts p.name) (stands.texts (walk_of h w) (position p) (stands.spots w p e))
+    where
+      go :
+          (o : Option (List ℕ)) → IsKept Reads h (walk_of h w) o →
+          IsDueOverTree s h (Get w) (told_text o)
+      go None k = get_nothing w (there w p e) k
+      go (Some text) k = get_text w text (there w p e) k
+
   -- the reply is due
   pub does_due : {c : Command} {x : Reply} {t : SessionState} → Does s c x t → IsDueOverTree s h c x
   does_due (steps.taken w e) = new_taken w ((stands.walkers w).0 e)
@@ -258,69 +369,74 @@ module _ (s : SessionState) (is : IsSession s) (h : History) (stands : StandsFor
       far_path_due s is h stands w v p q e f (there w p e) (there v q f) d
   does_due (steps.path_spots w v z p q e f near d) =
       along_due s is h stands w v p q e f (there w p e) (there v q f) z near d
+  does_due (steps.put_nobody w text e) = put_nobody w text (nobody w e)
+  does_due (steps.put_long w text p e l) = put_long w text (there w p e) l
+  does_due (steps.put_written w text p texts e l puts) = put_written w text (there w p e) l
+  does_due (steps.get_nobody w e) = get_nobody w (nobody w e)
+  does_due (steps.get_told w p e) = get_due w p e
+  does_due (steps.measured c x n due) = due h
 
   -- and the session stands for what has come
   pub does_stand :
       {c : Command} {x : Reply} {t : SessionState} → HasNumbers c → Does s c x t →
       StandsFor t (h ++ (c, x) ∷ [])
-  does_stand lt (steps.taken w e) =
-      idle (New w) Taken (does_due (steps.taken w e)) (λ v. refl)
-      (λ v f. taken_is_not_done (ap (λ (e : Event). e.1) f))
   does_stand lt (steps.made w p e at) =
-      put (New w) Done w p lt (does_due (steps.made w p e at)) (exists_made h w)
+      moved (New w) Done w p lt (does_due (steps.made w p e at)) (exists_made h w)
       (new_led w p e at.stands) (λ v n. refl)
       (λ v n f. n (the_number (ap (λ (e : Event). e.0) f)))
-  does_stand lt (steps.go_nobody w u e) =
-      idle (Go w u) NoWalker (does_due (steps.go_nobody w u e)) (λ v. refl)
-      (λ v f. go_is_not_new w v u (ap (λ (e : Event). e.0) f))
-  does_stand lt (steps.stopped w u p e d) =
-      idle (Go w u) Deep (does_due (steps.stopped w u p e d)) (λ v. refl)
-      (λ v f. go_is_not_new w v u (ap (λ (e : Event). e.0) f))
+      (λ v text f. let no : New w ≡ Put v text = ap (λ (e : Event). e.0) f in absurd (cc))
   does_stand lt (steps.gone w u p q e g) =
-      put (Go w u) Done w q lt (does_due (steps.gone w u p q e g))
+      moved (Go w u) Done w q lt (does_due (steps.gone w u p q e g))
       (exists_push h (Go w u, Done) w (there w p e)) (go_led w u p q e g)
       (λ v n. cond-false (w == v) u [] (ne_eqb w v n))
-      (λ v n f. go_is_not_new w v u (ap (λ (e : Event). e.0) f))
+      (λ v n f. let no : Go w u ≡ New v = ap (λ (e : Event). e.0) f in absurd (cc))
+      (λ v text f. let no : Go w u ≡ Put v text = ap (λ (e : Event). e.0) f in absurd (cc))
+  does_stand lt (steps.put_written w text p texts e l puts) = written w text p texts e puts l
+  does_stand lt (steps.get_told w p e) =
+      idle (Get w) (told_text (text_under s.texts p.name)) (get_due w p e)
+      (told_not_done (text_under s.texts p.name))
+  does_stand lt (steps.measured c x n due) = idle c x (due h) n
+  does_stand lt (steps.taken w e) =
+      idle (New w) Taken (does_due (steps.taken w e)) (λ f. absurd (cc))
+  does_stand lt (steps.go_nobody w u e) =
+      idle (Go w u) NoWalker (does_due (steps.go_nobody w u e)) (λ f. absurd (cc))
+  does_stand lt (steps.stopped w u p e d) =
+      idle (Go w u) Deep (does_due (steps.stopped w u p e d)) (λ f. absurd (cc))
   does_stand lt (steps.at_nobody w e) =
-      idle (At w) NoWalker (does_due (steps.at_nobody w e)) (λ v. refl)
-      (λ v f. at_is_not_new w v (ap (λ (e : Event). e.0) f))
+      idle (At w) NoWalker (does_due (steps.at_nobody w e)) (λ f. absurd (cc))
   does_stand lt (steps.at_spot w p e) =
       idle (At w) (AtPlace p.name p.spin (state_at s.rules.automaton (tile_state s.rules p)).kind)
-      (does_due (steps.at_spot w p e)) (λ v. refl)
-      (λ v f. at_is_not_new w v (ap (λ (e : Event). e.0) f))
+      (does_due (steps.at_spot w p e)) (λ f. absurd (cc))
   does_stand lt (steps.same_nobody w v e) =
-      idle (Same w v) NoWalker (does_due (steps.same_nobody w v e)) (λ i. refl)
-      (λ i f. same_is_not_new w v i (ap (λ (e : Event). e.0) f))
+      idle (Same w v) NoWalker (does_due (steps.same_nobody w v e)) (λ f. absurd (cc))
   does_stand lt (steps.one_tile w v p q e f n) =
-      idle (Same w v) Yes (does_due (steps.one_tile w v p q e f n)) (λ i. refl)
-      (λ i f. same_is_not_new w v i (ap (λ (e : Event). e.0) f))
+      idle (Same w v) Yes (does_due (steps.one_tile w v p q e f n)) (λ f. absurd (cc))
   does_stand lt (steps.two_tiles w v p q e f n) =
-      idle (Same w v) No (does_due (steps.two_tiles w v p q e f n)) (λ i. refl)
-      (λ i f. same_is_not_new w v i (ap (λ (e : Event). e.0) f))
+      idle (Same w v) No (does_due (steps.two_tiles w v p q e f n)) (λ f. absurd (cc))
   does_stand lt (steps.level_nobody w e) =
-      idle (Level w) NoWalker (does_due (steps.level_nobody w e)) (λ v. refl)
-      (λ v f. level_is_not_new w v (ap (λ (e : Event). e.0) f))
+      idle (Level w) NoWalker (does_due (steps.level_nobody w e)) (λ f. absurd (cc))
   does_stand lt (steps.level_spot w p e) =
-      idle (Level w) (AtLevel (length p.name)) (does_due (steps.level_spot w p e)) (λ v. refl)
-      (λ v f. level_is_not_new w v (ap (λ (e : Event). e.0) f))
+      idle (Level w) (AtLevel (length p.name)) (does_due (steps.level_spot w p e)) (λ f. absurd (cc))
   does_stand lt (steps.dist_nobody w v e) =
-      idle (Dist w v) NoWalker (does_due (steps.dist_nobody w v e)) (λ i. refl)
-      (λ i f. dist_is_not_new w v i (ap (λ (e : Event). e.0) f))
+      idle (Dist w v) NoWalker (does_due (steps.dist_nobody w v e)) (λ f. absurd (cc))
   does_stand lt (steps.dist_far w v p q e f d) =
-      idle (Dist w v) Deep (does_due (steps.dist_far w v p q e f d)) (λ i. refl)
-      (λ i f. dist_is_not_new w v i (ap (λ (e : Event). e.0) f))
+      idle (Dist w v) Deep (does_due (steps.dist_far w v p q e f d)) (λ f. absurd (cc))
   does_stand lt (steps.dist_spots w v n p q e f near d) =
-      idle (Dist w v) (Apart n) (does_due (steps.dist_spots w v n p q e f near d)) (λ i. refl)
-      (λ i f. dist_is_not_new w v i (ap (λ (e : Event). e.0) f))
+      idle (Dist w v) (Apart n) (does_due (steps.dist_spots w v n p q e f near d))
+      (λ f. absurd (cc))
   does_stand lt (steps.path_nobody w v e) =
-      idle (Path w v) NoWalker (does_due (steps.path_nobody w v e)) (λ i. refl)
-      (λ i f. path_is_not_new w v i (ap (λ (e : Event). e.0) f))
+      idle (Path w v) NoWalker (does_due (steps.path_nobody w v e)) (λ f. absurd (cc))
   does_stand lt (steps.path_far w v p q e f d) =
-      idle (Path w v) Deep (does_due (steps.path_far w v p q e f d)) (λ i. refl)
-      (λ i f. path_is_not_new w v i (ap (λ (e : Event). e.0) f))
+      idle (Path w v) Deep (does_due (steps.path_far w v p q e f d)) (λ f. absurd (cc))
   does_stand lt (steps.path_spots w v z p q e f near d) =
-      idle (Path w v) (Along z) (does_due (steps.path_spots w v z p q e f near d)) (λ i. refl)
-      (λ i f. path_is_not_new w v i (ap (λ (e : Event). e.0) f))
+      idle (Path w v) (Along z) (does_due (steps.path_spots w v z p q e f near d))
+      (λ f. absurd (cc))
+  does_stand lt (steps.put_nobody w text e) =
+      idle (Put w text) NoWalker (does_due (steps.put_nobody w text e)) (λ f. absurd (cc))
+  does_stand lt (steps.put_long w text p e l) =
+      idle (Put w text) Long (does_due (steps.put_long w text p e l)) (λ f. absurd (cc))
+  does_stand lt (steps.get_nobody w e) =
+      idle (Get w) NoWalker (does_due (steps.get_nobody w e)) (λ f. absurd (cc))
 
 -- a session with another spot of walker w
 pub put_session :
@@ -368,6 +484,12 @@ does_keep (steps.dist_spots w v n p q e f near d) = (refl, refl)
 does_keep (steps.path_nobody w v e) = (refl, refl)
 does_keep (steps.path_far w v p q e f d) = (refl, refl)
 does_keep (steps.path_spots w v z p q e f near d) = (refl, refl)
+does_keep (steps.put_nobody w text e) = (refl, refl)
+does_keep (steps.put_long w text p e l) = (refl, refl)
+does_keep (steps.put_written w text p texts e l puts) = (refl, refl)
+does_keep (steps.get_nobody w e) = (refl, refl)
+does_keep (steps.get_told w p e) = (refl, refl)
+does_keep (steps.measured c x n due) = (refl, refl)
 
 -- a session stands for the same histories in two readings that say the same
 stands_again :
@@ -379,6 +501,9 @@ stands_again r t s known same h st = record {
       (st.replies before rest c x e);
   walkers = st.walkers;
   spots = λ w p e. (same.places s.kind (known []) (walk_of h w) (position p)).0 (st.spots w p e);
+  texts = λ u p led.
+      kept_alike same h u (text_under s.texts p.name)
+      (st.texts u p ((same.places s.kind (known []) u p).1 led));
 }
 
 pub for_walks :

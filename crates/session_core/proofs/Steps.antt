@@ -1,5 +1,5 @@
 -- What a command does to the spots of a session, and what the session answers.
-use Rattle.std.specs.Prelude.{◌≡◌, ◌≢◌, ℕ, ◌⊎◌, List, [], length, slice_set, None, Some, IsSome}
+use Rattle.std.specs.Prelude.{◌≡◌, ◌≢◌, ℕ, ◌<◌, ◌≤◌, ◌⊎◌, List, [], length, slice_set, Option, None, Some, IsSome}
 use Rattle.tile_model.specs.declared.Letter.{Letter}
 use Rattle.tree_model.specs.Automata.{state_at}
 use Rattle.tree_model.specs.Limits.{deepest}
@@ -14,11 +14,15 @@ use Rattle.turn_rules.specs.Spots.{TreeSpot, IsAt, position, root_kind, tile_sta
 use Rattle.step_engine.specs.Crossings.{WalkLeadsTo, WalksDeep, StandsAfter}
 use Rattle.cell_distance.specs.Passing.{WalkPassesFar}
 use Rattle.reply_model.specs.declared.Command.{Command}
-use Rattle.reply_model.specs.declared.Command.TheVariants.{New, Go, At, Same, Level, Dist, Path}
+use Rattle.reply_model.specs.declared.Command.TheVariants.{New, Go, At, Same, Level, Dist, Path, Put, Get}
 use Rattle.reply_model.specs.declared.Reply.{Reply}
 use Rattle.reply_model.specs.declared.Reply.TheVariants.{Done, At as AtPlace, Yes, No, NoWalker, Taken, Deep}
 use Rattle.reply_model.specs.declared.Reply.TheVariants.{Level as AtLevel, Dist as Apart, Path as Along}
-use Rattle.session_core.specs.Sessions.{SessionState, walker_at, IsWalker}
+use Rattle.reply_model.specs.declared.Reply.TheVariants.{Text, NoText, Long}
+use Rattle.reply_model.specs.Histories.{History}
+use Rattle.reply_model.specs.Texts.{longest_text}
+use Rattle.lazy_map.specs.Texts.{Texts, text_under}
+use Rattle.session_core.specs.Sessions.{SessionState, walker_at, IsWalker, IsDueOverTree}
 
 -- the session with walker w at spot s, and all others as they are
 abbrev pub with_walker : SessionState → ℕ → TreeSpot → SessionState
@@ -26,7 +30,27 @@ with_walker session w s = record {
   rules = session.rules;
   kind = session.kind;
   walkers = slice_set session.walkers w (Some s);
+  texts = session.texts;
 }
+
+-- the session with other texts on tiles
+abbrev pub with_texts : SessionState → Texts → SessionState
+with_texts session texts = record {
+  rules = session.rules;
+  kind = session.kind;
+  walkers = session.walkers;
+  texts = texts;
+}
+
+-- The text is put under the name, and all other names keep what they have.
+pub record HasPut (before : Texts) (name text : List ℕ) (after : Texts) : Type 0 where
+  pub put : text_under after name ≡ Some text
+  pub others : (other : List ℕ) → other ≢ name → text_under after other ≡ text_under before other
+
+-- the reply that tells what is kept for a tile
+abbrev pub told_text : Option (List ℕ) → Reply
+told_text None = NoText
+told_text (Some text) = Text text
 
 -- A spot has gone along a walk to another one, and no crossing on the way lies too deep.
 pub record HasGone (session : SessionState) (s t : TreeSpot) (walk : List Letter) : Type 0 where
@@ -113,3 +137,20 @@ pub data Does (session : SessionState) : Command → Reply → SessionState → 
       (w v : ℕ) (z : List Letter) (s t : TreeSpot) → walker_at session w ≡ Some s →
       walker_at session v ≡ Some t → IsNearPath session.rules s t → IsAlongName session.rules s t z →
       Does session (Path w v) (Along z) session
+  put_nobody :
+      (w : ℕ) (text : List ℕ) → walker_at session w ≡ None →
+      Does session (Put w text) NoWalker session
+  put_long :
+      (w : ℕ) (text : List ℕ) (s : TreeSpot) → walker_at session w ≡ Some s →
+      longest_text < length text → Does session (Put w text) Long session
+  put_written :
+      (w : ℕ) (text : List ℕ) (s : TreeSpot) (texts : Texts) → walker_at session w ≡ Some s →
+      length text ≤ longest_text → HasPut session.texts s.name text texts →
+      Does session (Put w text) Done (with_texts session texts)
+  get_nobody : (w : ℕ) → walker_at session w ≡ None → Does session (Get w) NoWalker session
+  get_told :
+      (w : ℕ) (s : TreeSpot) → walker_at session w ≡ Some s →
+      Does session (Get w) (told_text (text_under session.texts s.name)) session
+  measured :
+      (c : Command) (x : Reply) → (x ≡ Done → ⊥) →
+      ((h : History) → IsDueOverTree session h c x) → Does session c x session

@@ -1,7 +1,10 @@
 -- What it means that a session has answered a command.
-use Rattle.std.specs.Prelude.{◌≡◌, [], ◌∷◌, ◌++◌}
+use Rattle.std.specs.Prelude.{◌≡◌, [], ◌∷◌, ◌++◌, Option, None, Some}
+use Rattle.ring_listing.specs.declared.fault.CountFault.{CountFault}
+use Rattle.ring_listing.specs.declared.fault.CountFault.TheVariants.{Far as TooFar, TooBig as OneTooBig, Memory}
 use Rattle.reply_model.specs.declared.Command.{Command}
 use Rattle.reply_model.specs.declared.Reply.{Reply}
+use Rattle.reply_model.specs.declared.Reply.TheVariants.{Far, TooBig}
 use Rattle.reply_model.specs.Histories.{History}
 use Rattle.session_core.specs.Sessions.{SessionState, StandsFor, StandsForWalks}
 use Rattle.session_core.specs.Sessions.{IsDueOverWalks, IsDueOverTree}
@@ -24,3 +27,9 @@ pub record HasAnswered (old : SessionState) (c : Command) (x : Reply) (new : Ses
     pub stands : (history : History) → StandsFor old history → StandsFor new (extended history c x)
     pub rules : new.rules ≡ old.rules
     pub kind : new.kind ≡ old.kind
+
+-- the reply that says why a ring is not counted, but for want of memory
+abbrev pub refusal_of : CountFault → Option Reply
+refusal_of TooFar = Some Far
+refusal_of (OneTooBig r) = Some (TooBig r)
+refusal_of Memory = None

@@ -1,23 +1,30 @@
--- Sessions: walkers in the tree of a kind, and the histories that a session stands for.
+-- Sessions: walkers and texts in the tree of a kind, and the histories that a session stands for.
 use Rattle.std.specs.Prelude.{◌≡◌, ℕ, ◌<◌, ◌≤◌, ◌↔◌, List, length, slice_index_or}
 use Rattle.std.specs.Prelude.{Option, None, Some, IsSome}
+use Rattle.tile_model.specs.declared.Letter.{Letter}
 use Rattle.tree_model.specs.Limits.{deepest}
+use Rattle.tree_model.specs.Positions.{Position}
 use Rattle.structure_check.specs.Rules.{TreeRules, AreSound}
 use Rattle.turn_rules.specs.Spots.{TreeSpot, IsSpot, position, root_kind}
 use Rattle.reply_model.specs.declared.Command.{Command}
+use Rattle.lazy_map.specs.Texts.{Texts, text_under}
+use Rattle.ring_listing.specs.Rings.{KindTree}
 use Rattle.reply_model.specs.declared.Command.TheVariants.{New, Go, At, Same, Level, Dist, Path}
+use Rattle.reply_model.specs.declared.Command.TheVariants.{Put, Get, Ring, Count}
 use Rattle.reply_model.specs.declared.Reply.{Reply}
 use Rattle.reply_model.specs.Histories.{History, most_walkers, AreDue, Exists, walk_of}
 use Rattle.reply_model.specs.Readings.{Reading}
 use Rattle.reply_model.specs.Replies.{IsReply}
+use Rattle.reply_model.specs.Texts.{IsLastText, IsBlank}
 use Rattle.reply_model.specs.WalkReadings.{walk_reading}
 use Rattle.reply_model.specs.TreeReadings.{tree_reading}
 
--- the rules, the kind of the root, and for each walker that there is its spot
+-- the rules, the kind of the root, for each walker that there is its spot, and the texts on tiles
 pub record SessionState : Type 0 where
   pub rules : TreeRules
   pub kind : ℕ
   pub walkers : List (Option TreeSpot)
+  pub texts : Texts
 
 -- the spot of walker w, if there is this walker
 abbrev pub walker_at : SessionState → ℕ → Option TreeSpot
@@ -38,7 +45,13 @@ pub record IsSession (session : SessionState) : Type 0 where
   pub spots :
       (w : ℕ) (s : TreeSpot) → walker_at session w ≡ Some s → IsWalker session.rules session.kind s
 
--- The numbers in the command are numbers of walkers.
+-- The rings whose sizes a session has counted are those of its tree.
+pub record HasItsRings (s : SessionState) (rings : KindTree) : Type 0 where
+  pub session : IsSession s
+  pub rules : rings.rules ≡ s.rules
+  pub kind : rings.kind ≡ s.kind
+
+-- The numbers of walkers in the command are such numbers.
 abbrev pub HasNumbers : Command → Type 0
 HasNumbers (New w) = w < most_walkers
 HasNumbers (Go w walk) = w < most_walkers
@@ -47,10 +60,20 @@ HasNumbers (Same w v) = (w < most_walkers) × (v < most_walkers)
 HasNumbers (Level w) = w < most_walkers
 HasNumbers (Dist w v) = (w < most_walkers) × (v < most_walkers)
 HasNumbers (Path w v) = (w < most_walkers) × (v < most_walkers)
+HasNumbers (Put w text) = w < most_walkers
+HasNumbers (Get w) = w < most_walkers
+HasNumbers (Ring d) = Unit {0}
+HasNumbers (Count d) = Unit {0}
+
+-- What is kept for the tile of the walk u is what was last written there, and nothing is kept where
+-- nothing was.
+abbrev pub IsKept : Reading → History → List Letter → Option (List ℕ) → Type 0
+IsKept reading history u None = IsBlank reading history u
+IsKept reading history u (Some text) = IsLastText reading history u text
 
 -- By a reading of the words of a reply, a session stands for a history: the replies in it are due,
--- there is a spot for exactly the walkers that exist after it, and the spot of each is the place of
--- its walk.
+-- there is a spot for exactly the walkers that exist after it, the spot of each is the place of its
+-- walk, and under the name of each tile its text is kept.
 pub record Stands (reading : Reading) (session : SessionState) (history : History) : Type 0 where
   pub replies : AreDue (IsReply session.rules.kinds session.kind reading) history
   pub walkers : (w : ℕ) → IsSome (walker_at session w) ↔ Exists history w
@@ -58,6 +81,10 @@ pub record Stands (reading : Reading) (session : SessionState) (history : Histor
       (w : ℕ) (s : TreeSpot)
       → walker_at session w ≡ Some s
       → reading.HasPlace session.kind (walk_of history w) (position s)
+  pub texts :
+      (u : List Letter) (p : Position)
+      → reading.HasPlace session.kind u p
+      → IsKept reading history u (text_under session.texts p.name)
 
 -- The two readings, for the tree of this session.
 abbrev pub session_over_walks : SessionState → Reading

@@ -1,15 +1,19 @@
-//! `Session`: walkers in the tree of one kind, and what they answer to commands.
-ghost use Rattle.std.specs.Prelude.{◌≡◌, ◌<◌, ◌↔◌, [], length, replicate, None, Some};
+//! `Session`: walkers and texts in the tree of one kind, and what is answered to commands.
+ghost use Rattle.std.specs.Prelude.{◌≡◌, ◌<◌, ◌≤◌, ◌↔◌, suc, [], length, replicate, None, Some};
 ghost use Rattle.std.specs.Prelude.{MatchOption, IfOk, OnErr, IsTrue};
+ghost use Rattle.tree_model.specs.Names.{IsRing};
 ghost use Rattle.reply_model.specs.declared.Command.{Command};
+ghost use Rattle.lazy_map.specs.Texts.{most_texts};
 ghost use Rattle.reply_model.specs.Histories.{History, most_walkers};
 ghost use Rattle.session_core.specs.Sessions.{IsSession, HasNumbers, walker_at};
 ghost use Rattle.session_core.specs.Sessions.{StandsFor, StandsForWalks};
 ghost use Rattle.session_core.specs.Sessions.{IsDueOverWalks, IsDueOverTree};
-ghost use Rattle.session_core.specs.Answered.{HasAnswered, extended};
+ghost use Rattle.session_core.specs.Answered.{HasAnswered, extended, refusal_of};
 
 use cell_distance::{DistFault, spot_distance, spot_shortest};
-use reply_model::{Command, Reply, WALKERS};
+use lazy_map::{LazyMap, PutFault};
+use reply_model::{Bytes, Command, Reply, WALKERS};
+use ring_listing::{CountFault, Ring, RingSizes};
 use std::alloc::{AllocError, Global};
 use std::marker::Model;
 use step_engine::{StepFault, root_spot, walk};
@@ -17,33 +21,49 @@ use structure_check::Rules;
 use turn_rules::Spot;
 use walk_words::Walk;
 
-/// Walkers in the tree of one kind. It borrows the rules.
-#[derive(Debug, Drop)]
+/// The most tiles of a ring that is listed.
+const MOST_LISTED: u128 = 100_000;
+
+/// Walkers and texts in the tree of one kind. It borrows the rules.
+/// The sizes of rings that were counted are remembered.
+#[derive(Drop)]
 pub struct Session<'r> {
     rules: &'r Rules,
     kind: u8,
     walkers: Vec<Option<Spot>>,
+    texts: LazyMap,
+    rings: RingSizes<'r>,
 }
 
 impl<'r> Model for Session<'r> {
-    ghost use Rattle.session_core.specs.Sessions.{SessionState, IsSession};
+    ghost use Rattle.session_core.specs.Sessions.{SessionState, HasItsRings};
 
     ghost Value = { SessionState };
 
-    ghost view = { λ s. record { rules = s.rules.now; kind = s.kind; walkers = s.walkers.items } };
+    ghost view = { λ s. record {
+      rules = s.rules.now;
+      kind = s.kind;
+      walkers = s.walkers.items;
+      texts = s.texts;
+    } };
 
-    ghost invariant = { λ s.
-        IsSession (record { rules = s.rules.now; kind = s.kind; walkers = s.walkers.items }) };
+    ghost invariant = { λ s. HasItsRings (record {
+      rules = s.rules.now;
+      kind = s.kind;
+      walkers = s.walkers.items;
+      texts = s.texts;
+    }) s.rings };
 }
 
 impl<'r> Session<'r> {
-    /// A session without walkers in the tree of a kind, which is one of the tessellation.
+    /// A session without walkers and texts in the tree of a kind, which is one of the tessellation.
     pub fn new(alloc: Global, rules: &'r Rules, kind: u8) -> Result<Session<'r>, AllocError>
         requires { kind < length rules.now.kinds }
         ensures stands_over_walks { IfOk result (λ s. StandsForWalks s []) }
         ensures stands { IfOk result (λ s. StandsFor s []) }
         ensures rules { IfOk result (λ s. s.rules ≡ rules.now) }
         ensures kind { IfOk result (λ s. s.kind ≡ kind) }
+        ensures unwritten { IfOk result (λ s. s.texts ≡ []) }
     {
         // All answers rest on the rules being accepted. This call tells it, once for the session.
         let _automaton = rules.automaton();
@@ -51,14 +71,18 @@ impl<'r> Session<'r> {
             rules,
             kind,
             walkers: no_walkers(alloc)?,
+            texts: LazyMap::new(alloc)?,
+            rings: RingSizes::new(alloc, rules, kind),
         })
     }
 
     /// Does what the command says and answers its reply.
-    /// The numbers in the command are those of walkers.
-    /// Out of memory all walkers are as they were.
+    /// The numbers of walkers in the command are below 64, and fewer than 4,294,967,295 tiles have a text.
+    /// To `ring` it answers how many names there are, and [`Session::names_of_ring`] gives them.
+    /// Out of memory all walkers and texts are as they were.
     pub fn apply(&mut self, c: &Command) -> Result<Reply, AllocError>
-        requires { HasNumbers c.now }
+        requires numbers { HasNumbers c.now }
+        requires room { length self.old.texts < most_texts }
 
         // The reply is the one that is due after each history for which the session stands.
         // The session stands then for that history with the command and its reply behind it.
@@ -89,6 +113,9 @@ impl<'r> Session<'r> {
         ensures unchanged { OnErr result (self.new ≡ self.old) }
         ensures rules { self.new.rules ≡ self.old.rules }
         ensures kind { self.new.kind ≡ self.old.kind }
+
+        // At most one tile more has a text.
+        ensures written { length self.new.texts ≤ suc (length self.old.texts) }
     {
         match c {
             Command::New(w) => self.new_walker(*w),
@@ -98,7 +125,27 @@ impl<'r> Session<'r> {
             Command::Level(w) => Ok(self.level(*w)),
             Command::Dist(w, v) => self.distance(*w, *v),
             Command::Path(w, v) => self.path(*w, *v),
+            Command::Put(w, text) => self.put(*w, text),
+            Command::Get(w) => self.get(*w),
+            Command::Ring(d) => self.ring(*d),
+            Command::Count(d) => self.count(*d),
         }
+    }
+
+    /// How many tiles have a text. Takes no memory.
+    pub fn written(&self) -> u32
+        ensures { result ≡ length self.now.texts }
+    {
+        self.texts.len()
+    }
+
+    /// The names of the tiles `d` crossings away from the root, in their order.
+    pub fn names_of_ring(&self, d: u32) -> Result<Ring<'r>, AllocError>
+        ensures session { IsSession self.now }
+        ensures names { IfOk result (λ ring.
+            IsRing self.now.rules.kinds self.now.rules.automaton self.now.kind d ring.rest) }
+    {
+        Ring::of(*self.walkers.allocator(), self.rules, self.kind, d)
     }
 
     /// The spot of walker `w`, if there is this walker.
@@ -117,6 +164,7 @@ impl<'r> Session<'r> {
         requires { w < most_walkers }
         ensures answered { IfOk result (λ x. HasAnswered self.old (Command.New w) x self.new) }
         ensures unchanged { OnErr result (self.new ≡ self.old) }
+        ensures texts { self.new.texts ≡ self.old.texts }
     {
         if self.spot(w).is_some() {
             return Ok(Reply::Taken);
@@ -132,6 +180,7 @@ impl<'r> Session<'r> {
         ensures answered { IfOk result
             (λ x. HasAnswered self.old (Command.Go w path.now) x self.new) }
         ensures unchanged { OnErr result (self.new ≡ self.old) }
+        ensures texts { self.new.texts ≡ self.old.texts }
     {
         let Some(spot) = &mut self.walkers[w as usize] else {
             return Ok(Reply::NoWalker);
@@ -224,6 +273,73 @@ impl<'r> Session<'r> {
             Err(DistFault::Deep) => Ok(Reply::Deep),
             Err(DistFault::Memory) => Err(AllocError),
         }
+    }
+
+    /// Writes a text on the tile of walker `w`.
+    fn put(&mut self, w: u8, text: &Bytes) -> Result<Reply, AllocError>
+        requires below { w < most_walkers }
+        requires room { length self.old.texts < most_texts }
+        ensures answered { IfOk result
+            (λ x. HasAnswered self.old (Command.Put w text.now) x self.new) }
+        ensures unchanged { OnErr result (self.new ≡ self.old) }
+        ensures written { length self.new.texts ≤ suc (length self.old.texts) }
+    {
+        let Some(spot) = &self.walkers[w as usize] else {
+            return Ok(Reply::NoWalker);
+        };
+        match self.texts.put(spot.name(), text.as_slice()) {
+            Ok(()) => Ok(Reply::Done),
+            Err(PutFault::Long) => Ok(Reply::Long),
+            Err(PutFault::Memory) => Err(AllocError),
+        }
+    }
+
+    /// The text on the tile of walker `w`.
+    fn get(&self, w: u8) -> Result<Reply, AllocError>
+        requires { w < most_walkers }
+        ensures { IfOk result (λ x. HasAnswered self.now (Command.Get w) x self.now) }
+    {
+        let Some(spot) = self.spot(w) else {
+            return Ok(Reply::NoWalker);
+        };
+        match self.texts.get(spot.name()) {
+            Some(text) => Ok(Reply::Text(Bytes::copy_of(*self.walkers.allocator(), text)?)),
+            None => Ok(Reply::NoText),
+        }
+    }
+
+    /// How many tiles are listed as ring `d`.
+    fn ring(&mut self, d: u32) -> Result<Reply, AllocError>
+        ensures answered { IfOk result (λ x. HasAnswered self.old (Command.Ring d) x self.new) }
+        ensures unchanged { self.new ≡ self.old }
+    {
+        match self.rings.count(d) {
+            Ok(size) if size > MOST_LISTED => Ok(Reply::TooMany(size)),
+            Ok(size) => Ok(Reply::Tiles { d, size }),
+            Err(fault) => refusal(fault),
+        }
+    }
+
+    /// How many tiles lie `d` crossings away from the root.
+    fn count(&mut self, d: u32) -> Result<Reply, AllocError>
+        ensures answered { IfOk result (λ x. HasAnswered self.old (Command.Count d) x self.new) }
+        ensures unchanged { self.new ≡ self.old }
+    {
+        match self.rings.count(d) {
+            Ok(size) => Ok(Reply::Count(size)),
+            Err(fault) => refusal(fault),
+        }
+    }
+}
+
+/// The reply that refuses to count a ring.
+fn refusal(fault: CountFault) -> Result<Reply, AllocError>
+    ensures { IfOk result (λ x. refusal_of fault ≡ Some x) }
+{
+    match fault {
+        CountFault::Far => Ok(Reply::Far),
+        CountFault::TooBig(r) => Ok(Reply::TooBig(r)),
+        CountFault::Memory => Err(AllocError),
     }
 }
 

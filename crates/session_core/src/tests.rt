@@ -8,7 +8,7 @@ mod samples;
 
 use crate::{Session, laws};
 use ball::Ball;
-use reply_model::{Command, Reply, WALKERS};
+use reply_model::{Bytes, Command, Reply, WALKERS};
 use sample_tilings::{heptagons, heptagons_and_hexagons, pentagons};
 use samples::{squares, triangles};
 use std::alloc::{AllocError, Global};
@@ -69,17 +69,52 @@ fn apart(alloc: Global) -> Result<Vec<(Command, &'static str)>, AllocError> {
     Ok(stream)
 }
 
+// Texts on tiles, which another walker reads, and the sizes of rings.
+fn writing(alloc: Global) -> Result<Vec<(Command, &'static str)>, AllocError> {
+    let long = [b'a'; 65];
+    let mut stream = Vec::new(alloc);
+    stream.push((Command::Put(0, Bytes::copy_of(alloc, &long)?), "no walker"))?;
+    stream.push((Command::Get(0), "no walker"))?;
+    stream.push((Command::New(0), "ok"))?;
+    stream.push((Command::New(1), "ok"))?;
+    stream.push((Command::Get(0), "none"))?;
+    stream.push((Command::Put(0, Bytes::copy_of(alloc, b"red")?), "ok"))?;
+    stream.push((Command::Go(0, walk(alloc, &[L, X])?), "ok"))?;
+    stream.push((Command::Get(0), "none"))?;
+    stream.push((Command::Go(1, walk(alloc, &[R])?), "ok"))?;
+    stream.push((Command::Get(1), "text red"))?;
+    stream.push((Command::Put(1, Bytes::copy_of(alloc, b"")?), "ok"))?;
+    stream.push((Command::Put(1, Bytes::copy_of(alloc, &long)?), "long"))?;
+    stream.push((Command::Get(1), "text "))?;
+    stream.push((Command::Ring(2), "tiles 15"))?;
+    stream.push((Command::Count(1), "count 5"))?;
+    stream.push((Command::Ring(15), "too many"))?;
+    stream.push((Command::Count(4_001), "far"))?;
+    stream.push((Command::Count(4_000), "too big"))?;
+    Ok(stream)
+}
+
 fn has_numbers(c: &Command) -> bool
     ensures { IsTrue result → HasNumbers c.now }
 {
     match c {
         Command::New(w) => *w < WALKERS,
         Command::Go(w, _) => *w < WALKERS,
-        Command::At(w) | Command::Level(w) => *w < WALKERS,
+        Command::At(w) | Command::Level(w) | Command::Get(w) => *w < WALKERS,
+        Command::Put(w, _) => *w < WALKERS,
+        Command::Ring(_) | Command::Count(_) => true,
         Command::Same(w, v) | Command::Dist(w, v) | Command::Path(w, v) => {
             *w < WALKERS && *v < WALKERS
         }
     }
+}
+
+// The reply to a command, or None where the numbers in it are none, or no more texts can be kept.
+fn answer(session: &mut Session<'_>, c: &Command) -> Result<Option<Reply>, AllocError> {
+    if !has_numbers(c) || session.written() == u32::MAX {
+        return Ok(None);
+    }
+    Ok(Some(session.apply(c)?))
 }
 
 fn text(x: &Reply) -> &'static str {
@@ -96,7 +131,26 @@ fn text(x: &Reply) -> &'static str {
         Reply::Dist(2) => "dist 2",
         Reply::Level(_) | Reply::Dist(_) => "elsewhere",
         Reply::Path(way) => path(way.letters()),
+        Reply::Text(bytes) => written(bytes.as_slice()),
+        Reply::NoText => "none",
+        Reply::Long => "long",
+        Reply::Tiles { d: 2, size: 15 } => "tiles 15",
+        Reply::Count(5) => "count 5",
+        Reply::TooMany(_) => "too many",
+        Reply::Far => "far",
+        Reply::TooBig(_) => "too big",
+        Reply::Tiles { .. } | Reply::Count(_) => "another size",
     }
+}
+
+fn written(bytes: &[u8]) -> &'static str {
+    if bytes.is_empty() {
+        return "text ";
+    }
+    if bytes == b"red".as_slice() {
+        return "text red";
+    }
+    "text of other bytes"
 }
 
 fn path(letters: &[Letter]) -> &'static str {
@@ -132,8 +186,9 @@ fn first_wrong(
 {
     let mut session = Session::new(alloc, rules, 0)?;
     for (place, event) in stream.iter().enumerate() {
-        if !has_numbers(&event.0) || text(&session.apply(&event.0)?) != event.1 {
-            return Ok(Some(place));
+        match answer(&mut session, &event.0)? {
+            Some(reply) if text(&reply) == event.1 => {}
+            _ => return Ok(Some(place)),
         }
     }
     Ok(None)
@@ -149,6 +204,7 @@ fn walkers_answer(rt: HostRuntime) -> Result<(), Fail> {
     assert_eq!(rt; first_wrong(alloc, &rules, &meeting(alloc)?)?, None);
     assert_eq!(rt; first_wrong(alloc, &rules, &around(alloc)?)?, None);
     assert_eq!(rt; first_wrong(alloc, &rules, &apart(alloc)?)?, None);
+    assert_eq!(rt; first_wrong(alloc, &rules, &writing(alloc)?)?, None);
     Ok(())
 }
 
@@ -199,10 +255,11 @@ fn together(
             };
             let one = here == there;
             let want = if one { "yes" } else { "no" };
-            if text(&session.apply(&Command::Same(w, v))?) != want {
-                return Ok(None);
+            match answer(session, &Command::Same(w, v))? {
+                Some(reply) if text(&reply) == want => {}
+                _ => return Ok(None),
             }
-            let Reply::Dist(crossings) = session.apply(&Command::Dist(w, v))? else {
+            let Some(Reply::Dist(crossings)) = answer(session, &Command::Dist(w, v))? else {
                 return Ok(None);
             };
             if distances.get(there as usize).copied() != Some(Some(crossings)) {
@@ -235,10 +292,52 @@ fn meet(
             return Ok(None);
         };
         tiles.push(tile)?;
-        session.apply(&Command::New(w))?;
-        session.apply(&Command::Go(w, walk))?;
+        answer(&mut session, &Command::New(w))?;
+        answer(&mut session, &Command::Go(w, walk))?;
+    }
+    if !reads_last_texts(alloc, &mut session, &tiles)? {
+        return Ok(None);
     }
     together(alloc, &mut session, ball, &tiles)
+}
+
+// The last of the first `count` walkers that stands on the tile.
+fn last_on(tiles: &[u32], tile: u32, count: u8) -> Option<u8> {
+    (0..count)
+        .rev()
+        .find(|w| tiles.get(*w as usize) == Some(&tile))
+}
+
+// The first byte of the text in a reply.
+fn first_byte(x: &Reply) -> Option<u8> {
+    match x {
+        Reply::Text(bytes) => bytes.as_slice().first().copied(),
+        _ => None,
+    }
+}
+
+// Whether each walker reads, now and then, what was last written on its tile, where one walker after
+// the other writes its number.
+fn reads_last_texts(
+    alloc: Global,
+    session: &mut Session<'_>,
+    tiles: &[u32],
+) -> Result<bool, AllocError> {
+    for w in 0..WALKERS {
+        answer(session, &Command::Put(w, Bytes::copy_of(alloc, &[w])?))?;
+        if w % 16 != 15 {
+            continue;
+        }
+        for (v, tile) in (0..WALKERS).zip(tiles) {
+            let Some(reply) = answer(session, &Command::Get(v))? else {
+                return Ok(false);
+            };
+            if first_byte(&reply) != last_on(tiles, *tile, w + 1) {
+                return Ok(false);
+            }
+        }
+    }
+    Ok(true)
 }
 
 // The pairs that meet are counted in the drawn tilings too.

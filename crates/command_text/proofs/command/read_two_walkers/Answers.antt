@@ -1,12 +1,10 @@
-use Rattle.command_text.specs.Words.{walkers}
 use Rattle.command_text.proofs.Begins.{if_err}
-use Rattle.command_text.proofs.Operands.{tells_walkers, tell_nobody, tell_no_second}
+use Rattle.command_text.proofs.Operands.{tells_walkers, no_front_walkers, tell_no_second}
 use Rattle.command_text.proofs.command.read_two_walkers.Goals as goal
 
 pub returns-in_err-w-clause-bad : goal.returns-in_err-w-clause-bad
 returns-in_err-w-clause-bad c =
-    if_err c.from_residual.result
-    (tell_nobody c.args.bytes.now walkers (λ e. absurd (cc)) c.in_err-w.ensures.none)
+    if_err c.from_residual.result (no_front_walkers c.args.bytes.now c.in_err-w.ensures.none)
 
 pub returns-in_err-v-clause-bad : goal.returns-in_err-v-clause-bad
 returns-in_err-v-clause-bad c =

@@ -1,13 +1,12 @@
 use Rattle.std.proofs.Common.{◌≡◌, Err, ap, ◌∙◌, rules}
 use Rattle.command_text.specs.declared.command.LineFault.{LineFault}
 use Rattle.command_text.specs.declared.command.LineFault.TheVariants.{Bad}
-use Rattle.command_text.specs.Words.{walker_with_walk}
-use Rattle.command_text.proofs.Operands.{tells_walk, tell_nobody, tell_no_walk}
+use Rattle.command_text.proofs.Operands.{tells_walk, no_front_walk, tell_no_walk}
 use Rattle.command_text.proofs.command.read_walker_and_walk.Goals as goal
 
 pub returns-in_err-w-clause-bad : goal.returns-in_err-w-clause-bad
 returns-in_err-w-clause-bad c = λ _.
-    tell_nobody c.args.bytes.now walker_with_walk (λ e. absurd (cc)) c.in_err-w.ensures.none
+    no_front_walk c.args.bytes.now c.in_err-w.ensures.none
 
 pub returns-in_err-walk-clause-bad : goal.returns-in_err-walk-clause-bad
 returns-in_err-walk-clause-bad c = λ is_bad.

@@ -2,7 +2,7 @@ use Rattle.std.proofs.Common.{◌≢◌, ◌≤◌, [], Err, length, ◌∙◌, 
 use Rattle.std.proofs.lemmas.Bool.Decides.{nat_tests}
 use Rattle.command_text.specs.CommandLines.{most_of_line}
 use Rattle.line_server.specs.Outputs.{too_long_text, bad_text}
-use Rattle.line_server.proofs.Answering.{on_ok, on_err, then_err, no_bytes, replies_so, fails_so, says_nothing, fails_before, is_too_long, is_bad, replies, fails_replying, numbers_told}
+use Rattle.line_server.proofs.Answering.{on_ok, on_err, then_err, no_bytes, replies_so, fails_so, says_nothing, fails_before, is_too_long, is_bad, numbers_told}
 use Rattle.line_server.proofs.Saying.{says_same, breaks_same}
 use Rattle.line_server.proofs.answer.answer_line.Goals as goal
 
@@ -26,28 +26,8 @@ returns-then-is_empty-clause-replied g c =
     omega (arith, c.if-line-gt-LONGEST_LINE.false) in
     says_nothing _ _ _ _ _ _ short (no_bytes _ (grind (arith, nat_tests)))
 
-pub apply-requires : goal.apply-requires
-apply-requires g c = numbers_told _ _ c.in-Ok.ensures.spelt
-
-pub returns-in_err-reply-in-Ok-clause-failed : goal.returns-in_err-reply-in-Ok-clause-failed
-returns-in_err-reply-in-Ok-clause-failed g c =
-    on_err c.from_residual.result (fails_before _ _ _ _ _ _)
-
-pub returns-in_ok-reply-in-Ok-clause-replied : goal.returns-in_ok-reply-in-Ok-clause-replied
-returns-in_ok-reply-in-Ok-clause-replied g c =
-    let short : length c.args.line.now ≤ most_of_line =
-    omega (arith, c.if-line-gt-LONGEST_LINE.false) in
-    on_ok c.say_reply.result
-    (replies _ _ _ _ _ _ _ _ _ short c.in-Ok.ensures.spelt c.in_ok-reply-in-Ok.ensures.due_over_walks _ _ c.in_ok-reply-in-Ok.ensures.stands_over_walks c.apply.ensures.rules c.apply.ensures.kind)
-    c.say_reply.ensures.said
-
-pub returns-in_ok-reply-in-Ok-clause-failed : goal.returns-in_ok-reply-in-Ok-clause-failed
-returns-in_ok-reply-in-Ok-clause-failed g c =
-    let short : length c.args.line.now ≤ most_of_line =
-    omega (arith, c.if-line-gt-LONGEST_LINE.false) in
-    then_err c.say_reply.result
-    (fails_replying _ _ c.apply.new.self _ _ _ _ _ _ short c.in-Ok.ensures.spelt c.in_ok-reply-in-Ok.ensures.due_over_walks _)
-    c.say_reply.ensures.broken
+pub answer_command-requires-clause-numbers : goal.answer_command-requires-clause-numbers
+answer_command-requires-clause-numbers g c = numbers_told _ _ c.in-Ok.ensures.spelt
 
 pub returns-in-Err-Bad-clause-replied : goal.returns-in-Err-Bad-clause-replied
 returns-in-Err-Bad-clause-replied g c =

@@ -1,5 +1,5 @@
-use Rattle.std.proofs.Common.{[], ◌∷◌, ◌++◌, refl, sym, ap, ◌∙◌, arith}
-use Rattle.std.proofs.lemmas.List.{append_assoc}
+use Rattle.std.proofs.Common.{[], ◌∷◌, ◌++◌, length, refl, sym, ap, ◌∙◌, arith}
+use Rattle.std.proofs.lemmas.List.{append_assoc, length-append}
 use Rattle.line_server.specs.Lines.{feed}
 use Rattle.line_server.proofs.Answering.{on_err}
 use Rattle.line_server.proofs.Going.{begins, text_behind, replied, failed, comes, stops}
@@ -11,6 +11,7 @@ loop-line-init g c = record {
   same_waiting = refl;
   going = λ dropped d. begins _ _ dropped _ _ _ _ c.requires.written d;
   front = ([], refl);
+  few = omega arith;
   later = omega arith;
 }
 
@@ -33,8 +34,20 @@ loop-line-preserved g c = record {
         ∙ ap (λ l. c.loop-line.invariant.front.0 ++ l) (c.in-Some.ensures.split ∙ sym (append_assoc c.in-Some.line.now (feed ∷ []) c.in-Some.behind.now))
         ∙ sym (append_assoc c.loop-line.invariant.front.0 (c.in-Some.line.now ++ feed ∷ []) c.in-Some.behind.now),
   );
+  few =
+      omega (
+        arith,
+        c.loop-line.invariant.few,
+        c.in_ok-answer_end.ensures.few,
+        ap length c.in-Some.ensures.split,
+        length-append c.in-Some.line.now (feed ∷ c.in-Some.behind.now),
+      );
   later = omega (arith, c.loop-line.invariant.later, c.in_ok-answer_end.ensures.later);
 }
+
+pub answer_end-requires-clause-room : goal.answer_end-requires-clause-room
+answer_end-requires-clause-room g c =
+    omega (arith, c.loop-line.invariant.few, c.requires.room)
 
 pub returns-in_err-write-clause-stopped : goal.returns-in_err-write-clause-stopped
 returns-in_err-write-clause-stopped g c = λ dropped d.
@@ -46,3 +59,6 @@ returns-clause-answered g c = λ dropped d.
     comes _ _ dropped _ _ _ _ c.loop-line.invariant.front.0 _ _ _ _ _
     (c.loop-line.invariant.going dropped d) c.in_ok-write.ensures.said c.in_ok-write.ensures.empty
     c.loop-line.invariant.front.1 c.in_default.ensures.none
+
+pub returns-clause-few : goal.returns-clause-few
+returns-clause-few g c = c.loop-line.invariant.few

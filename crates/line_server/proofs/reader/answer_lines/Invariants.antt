@@ -1,5 +1,5 @@
 -- The lines in front of the rest were answered, and their answers were said.
-use Rattle.std.proofs.Common.{◌≡◌, ◌≤◌, ℕ, List, ◌++◌, length}
+use Rattle.std.proofs.Common.{◌≡◌, ◌≤◌, ℕ, ◌+◌, List, ◌++◌, length}
 use Rattle.line_server.specs.Readers.{AreDropped}
 use Rattle.line_server.proofs.Going.{Going}
 use Rattle.line_server.proofs.reader.answer_lines.Given as goal
@@ -15,6 +15,8 @@ invariant-loop-line g l = record {
       (g.O.Sink.taken l.initial.outbox.sink.now) l.session l.lost l.rest
       (g.O.Sink.taken l.outbox.sink.now) l.outbox.waiting.now.items;
   front : (front : List ℕ) × (l.bytes ≡ front ++ l.rest);
+  few :
+      length l.session.texts + length l.rest ≤ length l.initial.session.texts + length l.bytes;
   later : g.O.Sink.faults l.initial.outbox.sink.now ≤ g.O.Sink.faults l.outbox.sink.now;
 }
 

@@ -18,6 +18,7 @@ loop-count-init g c = record {
   written = c.requires.written;
   serving = starts _ _ _ _ _ c.in-Ok.reader c.in-Ok.ensures.nothing;
   few = omega arith;
+  texts = omega (arith, c.in-Ok.ensures.empty);
   reads_later = omega arith;
   writes_later = omega arith;
 }
@@ -79,6 +80,23 @@ loop-count-preserved g c =
       written = c.in_default-answer.ensures.written;
       serving = serves_on _ _ _ _ _ _ _ _ _ _ before c.answer.new.session c.answer.new.self (take c.min-fresh.result read) (g.I.Source.left c.read.new.input) (g.O.Sink.taken c.answer.new.outbox.sink.now) c.min-fresh.result (λ t. c.in-Ok-read.ensures.next t ∙ ap (λ n. take n read ++ g.I.Source.left c.read.new.input) whole) (fresh_length read c.in-Ok-read.count c.min-fresh.result few within) (c.in_default-answer.ensures.answered before.line (c.read.ensures.keeps before.line before.keeps));
       few = omega (arith, c.min-fresh.ensures, c.loop-count.invariant.few);
+      texts =
+          omega (
+            arith,
+            c.in_default-answer.ensures.few,
+            c.read.ensures.kept,
+            c.loop-count.invariant.texts,
+          );
       reads_later = omega (arith, c.loop-count.invariant.reads_later, c.in-Ok-read.ensures.later);
       writes_later = omega (arith, c.loop-count.invariant.writes_later, c.in_default-answer.ensures.later);
     }
+
+pub finish-requires-clause-room : goal.finish-requires-clause-room
+finish-requires-clause-room g c =
+    omega (
+      arith,
+      c.read.ensures.kept,
+      c.loop-count.invariant.texts,
+      c.loop-count.invariant.few,
+      c.requires.room,
+    )

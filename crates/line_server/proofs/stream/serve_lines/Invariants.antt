@@ -1,5 +1,5 @@
 -- What was read is answered up to the last line feed, and the count of the bytes is within the limit.
-use Rattle.std.proofs.Common.{◌≡◌, ◌≤◌, ◌-◌, []}
+use Rattle.std.proofs.Common.{◌≡◌, ◌≤◌, ◌+◌, ◌-◌, [], length}
 use Rattle.line_server.specs.Lines.{most_of_stream}
 use Rattle.line_server.specs.Readers.{IsReader}
 use Rattle.line_server.proofs.Serving.{Serving}
@@ -15,6 +15,7 @@ invariant-loop-count g l = record {
       (g.I.Source.left l.initial.input) (g.O.Sink.taken l.initial.outbox.sink.now) l.session l.reader
       (g.I.Source.left l.input) (g.O.Sink.taken l.outbox.sink.now) l.total;
   few : l.total ≤ most_of_stream;
+  texts : length l.session.texts + l.reader.kept ≤ length l.initial.session.texts + l.total;
   reads_later : g.I.Source.faults l.initial.input ≤ g.I.Source.faults l.input;
   writes_later : g.O.Sink.faults l.initial.outbox.sink.now ≤ g.O.Sink.faults l.outbox.sink.now;
 }

@@ -86,3 +86,35 @@ returns-in-Path-clause-stands c =
 pub returns-in-Path-clause-stands_over_walks : goal.returns-in-Path-clause-stands_over_walks
 returns-in-Path-clause-stands_over_walks c =
     answered_stands_over_walks _ _ _ _ (same_answer _ _ _ _ _ c.in-Path.is c.path.ensures)
+
+pub returns-in-Put-clause-stands : goal.returns-in-Put-clause-stands
+returns-in-Put-clause-stands c =
+    answered_stands _ _ _ _ (same_answer _ _ _ _ _ c.in-Put.is c.put.ensures.answered)
+
+pub returns-in-Put-clause-stands_over_walks : goal.returns-in-Put-clause-stands_over_walks
+returns-in-Put-clause-stands_over_walks c =
+    answered_stands_over_walks _ _ _ _ (same_answer _ _ _ _ _ c.in-Put.is c.put.ensures.answered)
+
+pub returns-in-Get-clause-stands : goal.returns-in-Get-clause-stands
+returns-in-Get-clause-stands c =
+    answered_stands _ _ _ _ (same_answer _ _ _ _ _ c.in-Get.is c.get.ensures)
+
+pub returns-in-Get-clause-stands_over_walks : goal.returns-in-Get-clause-stands_over_walks
+returns-in-Get-clause-stands_over_walks c =
+    answered_stands_over_walks _ _ _ _ (same_answer _ _ _ _ _ c.in-Get.is c.get.ensures)
+
+pub returns-in-Ring-clause-stands : goal.returns-in-Ring-clause-stands
+returns-in-Ring-clause-stands c =
+    answered_stands _ _ _ _ (same_answer _ _ _ _ _ c.in-Ring.is c.ring.ensures.answered)
+
+pub returns-in-Ring-clause-stands_over_walks : goal.returns-in-Ring-clause-stands_over_walks
+returns-in-Ring-clause-stands_over_walks c =
+    answered_stands_over_walks _ _ _ _ (same_answer _ _ _ _ _ c.in-Ring.is c.ring.ensures.answered)
+
+pub returns-in-Count-clause-stands : goal.returns-in-Count-clause-stands
+returns-in-Count-clause-stands c =
+    answered_stands _ _ _ _ (same_answer _ _ _ _ _ c.in-Count.is c.count.ensures.answered)
+
+pub returns-in-Count-clause-stands_over_walks : goal.returns-in-Count-clause-stands_over_walks
+returns-in-Count-clause-stands_over_walks c =
+    answered_stands_over_walks _ _ _ _ (same_answer _ _ _ _ _ c.in-Count.is c.count.ensures.answered)

@@ -1,0 +1,9 @@
+//! Texts on tiles: a map from the names of tiles to texts of at most 64 bytes.
+#![tactic(auto)]
+
+mod map;
+#[cfg(test)]
+mod tests;
+mod text;
+
+pub use map::{LONGEST_TEXT, LazyMap, PutFault};

@@ -1,0 +1,10 @@
+mod Behind
+mod Moves
+mod Known
+mod Onwards
+mod Sums
+mod Families
+mod Counted
+mod Next
+mod Tallying
+mod Told
