@@ -1,0 +1,15 @@
+pub mod Cases
+pub mod Darts
+pub mod Parents
+pub mod Steps
+pub mod Sights
+pub mod Walks
+pub mod Listed
+pub mod Rounds
+pub mod Handed
+pub mod Dead
+pub mod Exact
+pub mod Classed
+pub mod Celled
+pub mod Sorted
+pub mod Meaning

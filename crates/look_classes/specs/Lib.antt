@@ -1,0 +1,9 @@
+pub mod Tree
+pub mod Places
+pub mod Looks
+pub mod Numbers
+pub mod Classes
+pub mod States
+pub mod Contours
+pub mod Codes
+pub mod Laws

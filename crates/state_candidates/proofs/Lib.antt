@@ -1,0 +1,14 @@
+pub mod Joined
+pub mod Each
+pub mod Way
+pub mod Sides
+pub mod Numbered
+pub mod Renamed
+pub mod Bases
+pub mod FirstEntries
+pub mod Gathering
+pub mod Having
+pub mod Tables
+pub mod Assembled
+pub mod Found
+pub mod OneCandidate
