@@ -1,0 +1,4 @@
+pub mod Cones
+pub mod Looks
+pub mod Partitions
+pub mod Representatives

@@ -1,0 +1,6 @@
+-- Lemmas of this crate.
+mod Alone
+mod Apart
+mod Halving
+mod Hanging
+mod Links
