@@ -3,7 +3,7 @@ use Rattle.std.proofs.Common.{◌≡◌, sym, ◌∙◌, ap, subst, refl}
 use Rattle.walker_cli.specs.declared.status.Status.{Status}
 use Rattle.walker_cli.specs.declared.status.Status.TheVariants.{Done, WriteFault}
 use Rattle.walker_cli.specs.declared.answer.Answer.{Answer}
-use Rattle.walker_cli.specs.declared.answer.Answer.TheVariants.{TypeTold, Accepted, Usage, FileTooLong, TessLine, TessKinds, RulesSyntax, RulesShape, Broken, Spherical}
+use Rattle.walker_cli.specs.declared.answer.Answer.TheVariants.{TypeTold, Accepted, Usage, FileTooLong, TessLine, TessKinds, RulesSyntax, RulesShape, Broken, Spherical, Closed, GaveUp}
 use Rattle.walker_cli.specs.declared.answer.Saying.{Saying}
 use Rattle.walker_cli.specs.declared.answer.Saying.TheVariants.{Due, FileFault, StoreFault}
 use Rattle.walker_cli.specs.StatusLines.{Class, OfLine, OfOutside, OfStream, OfMemory, class_of, status_of, saying_status}
@@ -22,6 +22,8 @@ answer_class RulesSyntax = refl
 answer_class (RulesShape part index) = refl
 answer_class (Broken at) = refl
 answer_class (Spherical p q) = refl
+answer_class (Closed n) = refl
+answer_class (GaveUp n) = refl
 
 -- the classes of what is said
 abbrev pub IsSpoken : Class → Type 0

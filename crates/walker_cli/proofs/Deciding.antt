@@ -1,5 +1,5 @@
 -- From what the files hold to the answer that is due.
-use Rattle.std.proofs.Common.{◌≡◌, ℕ, ◌<◌, ◌≤◌, List, Option, None, Result, Ok, Err, MatchResult, length, refl, sym, ◌∙◌, ap, subst, arith}
+use Rattle.std.proofs.Common.{◌≡◌, ℕ, ◌<◌, ◌≤◌, List, Option, Result, Ok, Err, MatchResult, length, refl, sym, ap, subst, arith}
 use Rattle.tile_model.specs.declared.Letter.{Letter}
 use Rattle.tile_model.specs.Tessellations.{TileKind}
 use Rattle.tile_model.specs.Validity.{IsValid}
@@ -21,8 +21,8 @@ use Rattle.walker_cli.specs.declared.answer.Answer.TheVariants.{TypeTold, Accept
 use Rattle.walker_cli.specs.declared.load.Refusal.{Refusal}
 use Rattle.walker_cli.specs.declared.answer.Saying.TheVariants.{Due, FileFault, StoreFault}
 use Rattle.walker_cli.specs.declared.load.Refusal.TheVariants.{Said, Memory}
-use Rattle.walker_cli.specs.Tasks.{Task, Ask, HaveNoForm}
-use Rattle.walker_cli.specs.Held.{Loaded, Refused, Outcome, Holds, HoldsTooMany, IsTess, IsRules, IsMade, RulesOf, tess_limit, rules_limit, broken_at, tess_too_long, tess_line, tess_kinds, tess_loaded, rules_too_long, rules_syntax, rules_shape, rules_broken, rules_loaded}
+use Rattle.walker_cli.specs.Tasks.{Task, Ask, HaveNoForm, RulesFrom, FromTeacher}
+use Rattle.walker_cli.specs.Held.{Loaded, Refused, Outcome, Lesson, Holds, HoldsTooMany, IsTess, IsRules, RulesOf, tess_limit, rules_limit, broken_at, tess_too_long, tess_line, tess_kinds, tess_loaded, rules_too_long, rules_syntax, rules_shape, rules_broken, rules_loaded}
 use Rattle.walker_cli.specs.Runs.{Call}
 use Rattle.walker_cli.specs.Due.{Contents, Makes, TypeRow, type_no_tess, type_no_kind, type_told, CheckRow, check_no_tess, check_no_rules, check_accepted, Row, FetchesFor, IsDue, no_form, by_task}
 use Rattle.walker_cli.specs.Loading.{IsRefusedAs, IsOfOutside, IfPlan, FitsTask, ServesOver, TellsStoreFault, PlansStored, RulesCome}
@@ -40,15 +40,15 @@ pub outside_serves : (kinds : List TileKind) (a : TreeAutomaton) (k : ℕ) (refu
 outside_serves kinds a k (Said saying) outside = outside
 outside_serves kinds a k Memory outside = tt
 
-pub refusal_fits : (contents : Contents) (task : Task) (refusal : Refusal)
-    → ((answer : Answer) → refusal ≡ Said (Due answer) → Row contents task answer)
+pub refusal_fits : (contents : Contents) (lesson : Lesson) (task : Task) (refusal : Refusal)
+    → ((answer : Answer) → refusal ≡ Said (Due answer) → Row contents lesson task answer)
     → ((role : Role) → refusal ≡ Said (FileFault role) → FetchesFor contents task role)
     → (refusal ≡ Said StoreFault → ⊥)
-    → IfPlan (Err refusal) (FitsTask contents task)
-refusal_fits contents task (Said (Due answer)) row fetches plain = row answer refl
-refusal_fits contents task (Said (FileFault role)) row fetches plain = fetches role refl
-refusal_fits contents task (Said StoreFault) row fetches plain = absurd (plain refl)
-refusal_fits contents task Memory row fetches plain = tt
+    → IfPlan (Err refusal) (FitsTask contents lesson task)
+refusal_fits contents lesson task (Said (Due answer)) row fetches plain = row answer refl
+refusal_fits contents lesson task (Said (FileFault role)) row fetches plain = fetches role refl
+refusal_fits contents lesson task (Said StoreFault) row fetches plain = absurd (plain refl)
+refusal_fits contents lesson task Memory row fetches plain = tt
 
 -- a refusal of what is fetched does not tell of a file that could not be written
 pub refused_plain : (refusal : Refusal)
@@ -86,10 +86,10 @@ tess_comes contents file view r known (tess_kinds bytes fault holds bad) = known
 tess_comes contents file view r known (tess_loaded bytes kinds holds spelling valid) = known.loaded bytes kinds holds spelling valid
 
 -- an answer that is due to words that ask for a task stands in the rows of that task
-pub row_of : (call : Call) (task : Task) → Ask call.words task → {answer : Answer} → IsDue call answer → Row call.contents task answer
+pub row_of : (call : Call) (task : Task) → Ask call.words task → {answer : Answer} → IsDue call answer → Row call.contents call.lesson task answer
 row_of call task ask (no_form none) = absurd (none task ask)
 row_of call task ask (by_task other answer asked row) =
-    subst (λ (t : Task). Row call.contents t answer) (one_task call.words other task asked ask) row
+    subst (λ (t : Task). Row call.contents call.lesson t answer) (one_task call.words other task asked ask) row
 
 -- the three ways in which telling a type ends
 pub type_unread : {T : Type 0} (contents : Contents) (tess : List ℕ) (k : ℕ) (walk : List Letter) (view : T → List TileKind) (refusal : Refusal) → TessRead {T = T} contents tess view (Err refusal) → {answer : Answer} → TypeRow contents tess k walk answer → IsRefusedAs answer refusal
@@ -129,46 +129,50 @@ rules_come contents kinds file r known (rules_broken bytes a n first second hold
 rules_come contents kinds file r known (rules_loaded bytes a holds spelled accepted) = known.loaded bytes a holds spelled accepted
 
 -- what is known of rules that are found, or of the refusal
-abbrev pub RulesFound : Contents → List TileKind → Option (List ℕ) → Result TreeRules Refusal → Type 0
-RulesFound contents kinds rules r = (outcome : Outcome TreeAutomaton) → RulesOf contents kinds rules outcome → RulesCome outcome r
+abbrev pub RulesFound : Contents → Lesson → List TileKind → RulesFrom → Result TreeRules Refusal → Type 0
+RulesFound contents lesson kinds rules r = (outcome : Outcome TreeAutomaton) → RulesOf contents lesson kinds rules outcome → RulesCome outcome r
+
+-- the same of other names of the kinds
+moved : (contents : Contents) (lesson : Lesson) (rules : RulesFrom) (outcome : Outcome TreeAutomaton) (one other : List TileKind) → one ≡ other → RulesOf contents lesson other rules outcome → RulesOf contents lesson one rules outcome
+moved contents lesson rules outcome one other same = subst (λ (ks : List TileKind). RulesOf contents lesson ks rules outcome) (sym same)
 
 -- the three ways in which a check ends
-pub check_unread : {T : Type 0} (contents : Contents) (tess : List ℕ) (rules : Option (List ℕ)) (view : T → List TileKind) (refusal : Refusal) → TessRead {T = T} contents tess view (Err refusal) → {answer : Answer} → CheckRow contents tess rules answer → IsRefusedAs answer refusal
-check_unread contents tess rules view refusal known (check_no_tess answer is) = tess_comes contents tess view (Err refusal) known is
-check_unread contents tess rules view refusal known (check_no_rules kinds answer is refused) = outside_comes answer refusal (tess_comes contents tess view (Err refusal) known is)
-check_unread contents tess rules view refusal known (check_accepted kinds a is loaded) = outside_comes (Accepted (length a.states) (length a.corners)) refusal (tess_comes contents tess view (Err refusal) known is)
+pub check_unread : {T : Type 0} (contents : Contents) (lesson : Lesson) (tess : List ℕ) (rules : RulesFrom) (view : T → List TileKind) (refusal : Refusal) → TessRead {T = T} contents tess view (Err refusal) → {answer : Answer} → CheckRow contents lesson tess rules answer → IsRefusedAs answer refusal
+check_unread contents lesson tess rules view refusal known (check_no_tess answer is) = tess_comes contents tess view (Err refusal) known is
+check_unread contents lesson tess rules view refusal known (check_no_rules kinds answer is refused) = outside_comes answer refusal (tess_comes contents tess view (Err refusal) known is)
+check_unread contents lesson tess rules view refusal known (check_accepted kinds a is loaded) = outside_comes (Accepted (length a.states) (length a.corners)) refusal (tess_comes contents tess view (Err refusal) known is)
 
-pub check_failed : {T : Type 0} (contents : Contents) (tess : List ℕ) (rules : Option (List ℕ)) (view : T → List TileKind) (t : T) (refusal : Refusal) → TessRead contents tess view (Ok t) → RulesFound contents (view t) rules (Err refusal) → {answer : Answer} → CheckRow contents tess rules answer → IsRefusedAs answer refusal
-check_failed contents tess rules view t refusal known found (check_no_tess answer is) = absurd (tess_comes contents tess view (Ok t) known is)
-check_failed contents tess rules view t refusal known found (check_no_rules kinds answer is refused) =
+pub check_failed : {T : Type 0} (contents : Contents) (lesson : Lesson) (tess : List ℕ) (rules : RulesFrom) (view : T → List TileKind) (t : T) (refusal : Refusal) → TessRead contents tess view (Ok t) → RulesFound contents lesson (view t) rules (Err refusal) → {answer : Answer} → CheckRow contents lesson tess rules answer → IsRefusedAs answer refusal
+check_failed contents lesson tess rules view t refusal known found (check_no_tess answer is) = absurd (tess_comes contents tess view (Ok t) known is)
+check_failed contents lesson tess rules view t refusal known found (check_no_rules kinds answer is refused) =
     let same : view t ≡ kinds = tess_comes contents tess view (Ok t) known is in
-    found (Refused answer) (subst (λ (ks : List TileKind). RulesOf contents ks rules (Refused answer)) (sym same) refused)
-check_failed contents tess rules view t refusal known found (check_accepted kinds a is loaded) =
+    found (Refused answer) (moved contents lesson rules (Refused answer) (view t) kinds same refused)
+check_failed contents lesson tess rules view t refusal known found (check_accepted kinds a is loaded) =
     let same : view t ≡ kinds = tess_comes contents tess view (Ok t) known is in
-    outside_comes (Accepted (length a.states) (length a.corners)) refusal (found (Loaded a) (subst (λ (ks : List TileKind). RulesOf contents ks rules (Loaded a)) (sym same) loaded))
+    outside_comes (Accepted (length a.states) (length a.corners)) refusal (found (Loaded a) (moved contents lesson rules (Loaded a) (view t) kinds same loaded))
 
-pub check_passed : {T : Type 0} (contents : Contents) (tess : List ℕ) (rules : Option (List ℕ)) (view : T → List TileKind) (t : T) (r : TreeRules) → TessRead contents tess view (Ok t) → RulesFound contents (view t) rules (Ok r) → {answer : Answer} → CheckRow contents tess rules answer → Accepted (length r.automaton.states) (length r.automaton.corners) ≡ answer
-check_passed contents tess rules view t r known found (check_no_tess answer is) = absurd (tess_comes contents tess view (Ok t) known is)
-check_passed contents tess rules view t r known found (check_no_rules kinds answer is refused) =
+pub check_passed : {T : Type 0} (contents : Contents) (lesson : Lesson) (tess : List ℕ) (rules : RulesFrom) (view : T → List TileKind) (t : T) (r : TreeRules) → TessRead contents tess view (Ok t) → RulesFound contents lesson (view t) rules (Ok r) → {answer : Answer} → CheckRow contents lesson tess rules answer → Accepted (length r.automaton.states) (length r.automaton.corners) ≡ answer
+check_passed contents lesson tess rules view t r known found (check_no_tess answer is) = absurd (tess_comes contents tess view (Ok t) known is)
+check_passed contents lesson tess rules view t r known found (check_no_rules kinds answer is refused) =
     let same : view t ≡ kinds = tess_comes contents tess view (Ok t) known is in
-    absurd (found (Refused answer) (subst (λ (ks : List TileKind). RulesOf contents ks rules (Refused answer)) (sym same) refused))
-check_passed contents tess rules view t r known found (check_accepted kinds a is loaded) =
+    absurd (found (Refused answer) (moved contents lesson rules (Refused answer) (view t) kinds same refused))
+check_passed contents lesson tess rules view t r known found (check_accepted kinds a is loaded) =
     let same : view t ≡ kinds = tess_comes contents tess view (Ok t) known is in
-    let one : r.automaton ≡ a = found (Loaded a) (subst (λ (ks : List TileKind). RulesOf contents ks rules (Loaded a)) (sym same) loaded) in
+    let one : r.automaton ≡ a = found (Loaded a) (moved contents lesson rules (Loaded a) (view t) kinds same loaded) in
     λ i. Accepted (length (one i).states) (length (one i).corners)
 
 -- the rules that are found are those that are made
-pub made_same : {T : Type 0} (contents : Contents) (tess : List ℕ) (view : T → List TileKind) (t : T) (r : Result TreeRules Refusal) (kinds : List TileKind) (a : TreeAutomaton) → TessRead contents tess view (Ok t) → RulesFound contents (view t) None r → Makes contents tess kinds a → RulesCome (Loaded a) r
-made_same contents tess view t r kinds a known found makes =
+pub made_same : {T : Type 0} (contents : Contents) (lesson : Lesson) (tess : List ℕ) (cells : ℕ) (view : T → List TileKind) (t : T) (r : Result TreeRules Refusal) (kinds : List TileKind) (a : TreeAutomaton) → TessRead contents tess view (Ok t) → RulesFound contents lesson (view t) (FromTeacher cells) r → Makes contents lesson tess cells kinds a → RulesCome (Loaded a) r
+made_same contents lesson tess cells view t r kinds a known found makes =
     let same : view t ≡ kinds = tess_comes contents tess view (Ok t) known makes.loaded in
-    found (Loaded a) (subst (λ (ks : List TileKind). IsMade ks (Loaded a)) (sym same) makes.made)
+    found (Loaded a) (moved contents lesson (FromTeacher cells) (Loaded a) (view t) kinds same makes.made)
 
 -- what is known of rules holds of what the files held before they were last read
-pub rules_kept : {old new : List ℕ → Option (List ℕ)} → ((name : List ℕ) → new name ≡ old name) → (kinds : List TileKind) (rules : Option (List ℕ)) (outcome : Outcome TreeAutomaton) → RulesOf new kinds rules outcome → RulesOf old kinds rules outcome
-rules_kept same kinds rules outcome is = subst (λ (contents : List ℕ → Option (List ℕ)). RulesOf contents kinds rules outcome) (λ i name. same name i) is
+pub rules_kept : {old new : List ℕ → Option (List ℕ)} → ((name : List ℕ) → new name ≡ old name) → (lesson : Lesson) (kinds : List TileKind) (rules : RulesFrom) (outcome : Outcome TreeAutomaton) → RulesOf new lesson kinds rules outcome → RulesOf old lesson kinds rules outcome
+rules_kept same lesson kinds rules outcome is = subst (λ (contents : List ℕ → Option (List ℕ)). RulesOf contents lesson kinds rules outcome) (λ i name. same name i) is
 
-pub found_kept : {old new : List ℕ → Option (List ℕ)} → ((name : List ℕ) → new name ≡ old name) → (kinds : List TileKind) (rules : Option (List ℕ)) (r : Result TreeRules Refusal) → RulesFound new kinds rules r → RulesFound old kinds rules r
-found_kept same kinds rules r found = subst (λ (contents : List ℕ → Option (List ℕ)). RulesFound contents kinds rules r) (λ i name. same name i) found
+pub found_kept : {old new : List ℕ → Option (List ℕ)} → ((name : List ℕ) → new name ≡ old name) → (lesson : Lesson) (kinds : List TileKind) (rules : RulesFrom) (r : Result TreeRules Refusal) → RulesFound new lesson kinds rules r → RulesFound old lesson kinds rules r
+found_kept same lesson kinds rules r found = subst (λ (contents : List ℕ → Option (List ℕ)). RulesFound contents lesson kinds rules r) (λ i name. same name i) found
 
 -- words in no form are answered in one way
 pub formless : (call : Call) → HaveNoForm call.words → {answer : Answer} → IsDue call answer → answer ≡ Usage

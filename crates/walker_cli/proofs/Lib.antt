@@ -1,8 +1,9 @@
 pub mod Lists
 pub mod Reading
 pub mod OneTask
-pub mod Options
+pub mod Choices
 pub mod Making
+pub mod Taught
 pub mod FileRows
 pub mod Deciding
 pub mod Sessions
@@ -10,6 +11,7 @@ pub mod Settling
 pub mod Classes
 pub mod TableRows
 pub mod StreamRows
+pub mod Refusals
 pub mod Promised
 pub mod Streams
 pub mod Plans

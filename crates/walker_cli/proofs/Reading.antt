@@ -4,7 +4,7 @@ use Rattle.tile_model.specs.declared.Letter.{Letter}
 use Rattle.tile_model.specs.WalkTexts.{walk_text}
 use Rattle.short_numbers.specs.Numbers.{IsNumber}
 use Rattle.walker_cli.proofs.OneTask.{letter}
-use Rattle.walker_cli.specs.Tasks.{Task, TellType, CheckRules, RunSession, LearnRules, IsKindForm, IsRunForm, IsLearnForm, Ask, RunOptions, LearnOptions}
+use Rattle.walker_cli.specs.Tasks.{Task, TellType, CheckRules, RunSession, LearnRules, IsKindForm, IsRunForm, IsLearnForm, Ask, RulesFrom, RunOptions, LearnOptions}
 
 -- a kind and a walk that two words write
 pub record IsStart (digits letters : List ℕ) (n : ℕ) (walk : List Letter) : Type 0 where
@@ -36,12 +36,12 @@ kind_task words tess digits letters is (TellType t k walk) ask =
     }
 kind_task words tess digits letters is (CheckRules t r) ask = absurd (cc (is, ask))
 kind_task words tess digits letters is (RunSession t n r) ask = absurd (cc (is, ask.spelled))
-kind_task words tess digits letters is (LearnRules t r) ask = let other : 107 ≡ 108 = ap (letter 0) (sym is ∙ ask.spelled) in absurd (omega (arith, other))
+kind_task words tess digits letters is (LearnRules t m r) ask = let other : 107 ≡ 108 = ap (letter 0) (sym is ∙ ask.spelled) in absurd (omega (arith, other))
 
 -- a run form, from its words and its options
-pub run_form : (words : List (List ℕ)) (tess digits : List ℕ) (options : List (List ℕ)) (n : ℕ) (rules : Option (List ℕ)) → words ≡ codes "run" ∷ tess ∷ digits ∷ options → IsNumber digits n → RunOptions options rules → IsRunForm words tess n rules
+pub run_form : (words : List (List ℕ)) (tess digits : List ℕ) (options : List (List ℕ)) (n : ℕ) (rules : RulesFrom) → words ≡ codes "run" ∷ tess ∷ digits ∷ options → IsNumber digits n → RunOptions options rules → IsRunForm words tess n rules
 run_form words tess digits options n rules is number chosen = record { digits = digits; options = options; number = number; chosen = chosen; spelled = is }
 
 -- and a learn form
-pub learn_form : (words : List (List ℕ)) (tess : List ℕ) (options : List (List ℕ)) (out : Option (List ℕ)) → words ≡ codes "learn" ∷ tess ∷ options → LearnOptions options out → IsLearnForm words tess out
-learn_form words tess options out is chosen = record { options = options; chosen = chosen; spelled = is }
+pub learn_form : (words : List (List ℕ)) (tess : List ℕ) (options : List (List ℕ)) (cells : ℕ) (out : Option (List ℕ)) → words ≡ codes "learn" ∷ tess ∷ options → LearnOptions options cells out → IsLearnForm words tess cells out
+learn_form words tess options cells out is chosen = record { options = options; chosen = chosen; spelled = is }

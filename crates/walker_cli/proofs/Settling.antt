@@ -1,6 +1,12 @@
 -- From what the steps of a call came to to its plan.
 use Rattle.way_io.specs.Counts.{Rose}
-use Rattle.std.proofs.Common.{◌≡◌, ℕ, Result, Ok, Err, IfOk, inl, refl, sym, subst}
+use Rattle.std.proofs.Common.{◌≡◌, ℕ, Bool, IsTrue, List, None, Result, Ok, Err, IfOk, inl, refl, sym, subst}
+use Rattle.tile_model.specs.declared.Letter.{Letter}
+use Rattle.tile_model.specs.Tessellations.{TileKind}
+use Rattle.tree_model.specs.Automata.{TreeAutomaton}
+use Rattle.walker_cli.specs.declared.answer.Answer.{Answer}
+use Rattle.walker_cli.specs.Tasks.{TellType, CheckRules, RunSession, RulesFrom}
+use Rattle.walker_cli.specs.Held.{Lesson}
 use Rattle.std.specs.declared.alloc.AllocError.{AllocError}
 use Rattle.walker_cli.specs.declared.answer.Role.{Role}
 use Rattle.walker_cli.specs.declared.answer.Saying.TheVariants.{Due, FileFault, StoreFault}
@@ -8,8 +14,8 @@ use Rattle.walker_cli.specs.declared.decide.Plan.{Plan}
 use Rattle.walker_cli.specs.declared.decide.Plan.TheVariants.{Say, Serve}
 use Rattle.walker_cli.specs.declared.load.Refusal.{Refusal}
 use Rattle.walker_cli.specs.declared.load.Refusal.TheVariants.{Said, Memory}
-use Rattle.walker_cli.specs.Loading.{IfPlan, SaysSome, IsReady, TellsFault, TellsStoreFault, KeepsByPlan, Settles}
-use Rattle.walker_cli.specs.Due.{Contents}
+use Rattle.walker_cli.specs.Loading.{IfPlan, SaysSome, IsReady, TellsFault, TellsStoreFault, KeepsByPlan, Settles, FitsTask, SaysAs, ServesFor, ServesOver, IsPlanned}
+use Rattle.walker_cli.specs.Due.{Contents, Row}
 use Rattle.way_io.specs.Contents.{KeepsAll}
 
 -- what holds of the plan that the steps came to holds of the plan of the call
@@ -57,11 +63,6 @@ pub kept_since : (old between new : Contents) (told : Result Plan Refusal)
 kept_since old between new told same kept =
     subst (λ (c : Contents). IfPlan told (KeepsByPlan c new)) (λ i name. same name i) kept
 
--- what holds of the plan that the steps came to holds of it where they came to one
-pub if_plan : (P : Plan → Type 0) (told : Result Plan Refusal) → IfPlan told P → IfOk told P
-if_plan P (Ok plan) holds = holds
-if_plan P (Err refusal) holds = tt
-
 -- a plan that tells of a file that could not be read comes from such a refusal
 pub fault_known : (told : Result Plan Refusal) (Q : Type 0)
     → IfOk told (λ plan. TellsFault plan → ⊥)
@@ -79,3 +80,41 @@ pub store_since : (told : Result Plan Refusal) (before between after : ℕ) → 
     → IfPlan told (λ plan. TellsStoreFault plan → Rose before after)
 store_since told before between after same failed =
     subst (λ (n : ℕ). IfPlan told (λ plan. TellsStoreFault plan → Rose n after)) same failed
+
+-- what is known of the plan of a task that asks no teacher, or of a session
+pub type_planned : (tells : Bool) (contents contents' : Contents) (tess : List ℕ) (k : ℕ) (walk : List Letter) (told : Result Plan Refusal)
+    → (IsTrue tells → (lesson : Lesson) → IfPlan told (FitsTask contents lesson (TellType tess k walk)))
+    → (IsTrue tells → (lesson : Lesson) (answer : Answer) → Row contents lesson (TellType tess k walk) answer → IfPlan told (SaysAs answer))
+    → IsPlanned tells contents contents' (TellType tess k walk) told
+type_planned tells contents contents' tess k walk told due exact = record {
+  lesson = None;
+  due = λ tell. due tell None;
+  exact = λ tell answer row. exact tell None answer row;
+  serves = λ tell kinds a kind serves. absurd serves;
+  stored = λ tell tess' out cells kinds a is makes. absurd (cc is);
+}
+
+pub check_planned : (tells : Bool) (contents contents' : Contents) (tess rules : List ℕ) (told : Result Plan Refusal)
+    → (IsTrue tells → (lesson : Lesson) → IfPlan told (FitsTask contents lesson (CheckRules tess rules)))
+    → (IsTrue tells → (lesson : Lesson) (answer : Answer) → Row contents lesson (CheckRules tess rules) answer → IfPlan told (SaysAs answer))
+    → IsPlanned tells contents contents' (CheckRules tess rules) told
+check_planned tells contents contents' tess rules told due exact = record {
+  lesson = None;
+  due = λ tell. due tell None;
+  exact = λ tell answer row. exact tell None answer row;
+  serves = λ tell kinds a kind serves. absurd serves;
+  stored = λ tell tess' out cells kinds a is makes. absurd (cc is);
+}
+
+pub session_planned : (tells : Bool) (contents contents' : Contents) (tess : List ℕ) (k : ℕ) (rules : RulesFrom) (lesson : Lesson) (told : Result Plan Refusal)
+    → (IsTrue tells → IfPlan told (FitsTask contents lesson (RunSession tess k rules)))
+    → (IsTrue tells → (answer : Answer) → Row contents lesson (RunSession tess k rules) answer → IfPlan told (SaysAs answer))
+    → (IsTrue tells → (kinds : List TileKind) (a : TreeAutomaton) (kind : ℕ) → ServesFor contents lesson (RunSession tess k rules) kinds a kind → IfPlan told (ServesOver kinds a kind))
+    → IsPlanned tells contents contents' (RunSession tess k rules) told
+session_planned tells contents contents' tess k rules lesson told due exact serves = record {
+  lesson = lesson;
+  due = due;
+  exact = exact;
+  serves = serves;
+  stored = λ tell tess' out cells kinds a is makes. absurd (cc is);
+}

@@ -13,6 +13,7 @@ use Rattle.walker_cli.specs.declared.status.Status.TheVariants.{Done, Memory, Re
 use Rattle.walker_cli.specs.declared.answer.Role.{Role}
 use Rattle.walker_cli.specs.declared.answer.Saying.{Saying}
 use Rattle.walker_cli.specs.declared.answer.Saying.TheVariants.{Due, FileFault, StoreFault}
+use Rattle.walker_cli.specs.Held.{Lesson}
 use Rattle.walker_cli.specs.Runs.{Run, call_of}
 use Rattle.walker_cli.specs.StatusLines.{OfStream, OfMemory, class_of}
 use Rattle.walker_cli.specs.Due.{Serves, IsFileFault}
@@ -25,85 +26,85 @@ use Rattle.walker_cli.proofs.OverTree.{stands_over_tree}
 use Rattle.walker_cli.proofs.Streams.{nothing_begun}
 use Rattle.walker_cli.proofs.TableRows.{Says, Streams, between, said_stream, silent, begun}
 
-module _ (run : Run) (answering : Answering) where
-  stream_answered : IsTrue run.source_tells → Streams run answering → IsTrue run.sink_tells → length run.before.left ≤ most_of_stream → ((run.status ≡ Done) × OutputStands answering run.before.left run.after.left run.before.taken run.after.taken) ⊎ IsOutsideOfStream run.status
+module _ (run : Run) (lesson : Lesson) (answering : Answering) where
+  stream_answered : IsTrue run.source_tells → Streams run lesson answering → IsTrue run.sink_tells → length run.before.left ≤ most_of_stream → ((run.status ≡ Done) × OutputStands answering run.before.left run.after.left run.before.taken run.after.taken) ⊎ IsOutsideOfStream run.status
   stream_answered gives (answered is within stands) takes few = inl (is, stands gives takes)
   stream_answered gives (cut_off is stands) takes few = inr (inr is)
   stream_answered gives (over_limit is more stands) takes few = let lt = more gives in absurd (omega (arith, lt, few))
-  stream_answered gives (broken_off is stands) takes few = inr (inl (between run is tt))
-  stream_answered gives (out_of_memory is stands) takes few = inr (inl (between run is tt))
+  stream_answered gives (broken_off is stands) takes few = inr (inl (between run lesson is tt))
+  stream_answered gives (out_of_memory is stands) takes few = inr (inl (between run lesson is tt))
 
-  stream_over : IsTrue run.source_tells → Streams run answering → most_of_stream < length run.before.left → (run.status ≡ InputTooLong) ⊎ IsOutsideOfStream run.status
+  stream_over : IsTrue run.source_tells → Streams run lesson answering → most_of_stream < length run.before.left → (run.status ≡ InputTooLong) ⊎ IsOutsideOfStream run.status
   stream_over gives (answered is within stands) many = let few = within gives in absurd (omega (arith, many, few))
   stream_over gives (cut_off is stands) many = inr (inr is)
   stream_over gives (over_limit is more stands) many = inl is
-  stream_over gives (broken_off is stands) many = inr (inl (between run is tt))
-  stream_over gives (out_of_memory is stands) many = inr (inl (between run is tt))
+  stream_over gives (broken_off is stands) many = inr (inl (between run lesson is tt))
+  stream_over gives (out_of_memory is stands) many = inr (inl (between run lesson is tt))
 
-  stream_long : IsTrue run.source_tells → Streams run answering → run.status ≡ InputTooLong → most_of_stream < length run.before.left
+  stream_long : IsTrue run.source_tells → Streams run lesson answering → run.status ≡ InputTooLong → most_of_stream < length run.before.left
   stream_long gives (answered is within stands) long = absurd (cc (is, long))
   stream_long gives (cut_off is stands) long = absurd (cc (is, long))
   stream_long gives (over_limit is more stands) long = more gives
   stream_long gives (broken_off is stands) long = absurd (cc (is, long))
   stream_long gives (out_of_memory is stands) long = absurd (cc (is, long))
 
-  stream_done : IsTrue run.source_tells → Streams run answering → IsTrue run.sink_tells → run.status ≡ Done → OutputStands answering run.before.left run.after.left run.before.taken run.after.taken
+  stream_done : IsTrue run.source_tells → Streams run lesson answering → IsTrue run.sink_tells → run.status ≡ Done → OutputStands answering run.before.left run.after.left run.before.taken run.after.taken
   stream_done gives (answered is within stands) takes done = stands gives takes
   stream_done gives (cut_off is stands) takes done = absurd (cc (is, done))
   stream_done gives (over_limit is more stands) takes done = absurd (cc (is, done))
   stream_done gives (broken_off is stands) takes done = absurd (cc (is, done))
   stream_done gives (out_of_memory is stands) takes done = absurd (cc (is, done))
 
-  stream_cut : IsTrue run.source_tells → Streams run answering → IsTrue run.sink_tells → run.status ≡ ReadFault → LinesStand answering run.before.left run.after.left run.before.taken run.after.taken
+  stream_cut : IsTrue run.source_tells → Streams run lesson answering → IsTrue run.sink_tells → run.status ≡ ReadFault → LinesStand answering run.before.left run.after.left run.before.taken run.after.taken
   stream_cut gives (answered is within stands) takes read = absurd (cc (is, read))
   stream_cut gives (cut_off is stands) takes read = stands gives takes
   stream_cut gives (over_limit is more stands) takes read = absurd (cc (is, read))
   stream_cut gives (broken_off is stands) takes read = absurd (cc (is, read))
   stream_cut gives (out_of_memory is stands) takes read = absurd (cc (is, read))
 
-  stream_refused : IsTrue run.source_tells → Streams run answering → IsTrue run.sink_tells → run.status ≡ InputTooLong → RefusalStands answering run.before.left run.before.taken run.after.taken
+  stream_refused : IsTrue run.source_tells → Streams run lesson answering → IsTrue run.sink_tells → run.status ≡ InputTooLong → RefusalStands answering run.before.left run.before.taken run.after.taken
   stream_refused gives (answered is within stands) takes long = absurd (cc (is, long))
   stream_refused gives (cut_off is stands) takes long = absurd (cc (is, long))
   stream_refused gives (over_limit is more stands) takes long = stands gives takes
   stream_refused gives (broken_off is stands) takes long = absurd (cc (is, long))
   stream_refused gives (out_of_memory is stands) takes long = absurd (cc (is, long))
 
-  stream_broken : IsTrue run.source_tells → Streams run answering → IsTrue run.sink_tells → run.status ≡ WriteFault → BeginningStands answering run.before.left run.before.taken run.after.taken
+  stream_broken : IsTrue run.source_tells → Streams run lesson answering → IsTrue run.sink_tells → run.status ≡ WriteFault → BeginningStands answering run.before.left run.before.taken run.after.taken
   stream_broken gives (answered is within stands) takes broke = absurd (cc (is, broke))
   stream_broken gives (cut_off is stands) takes broke = absurd (cc (is, broke))
   stream_broken gives (over_limit is more stands) takes broke = absurd (cc (is, broke))
   stream_broken gives (broken_off is stands) takes broke = stands gives takes
   stream_broken gives (out_of_memory is stands) takes broke = absurd (cc (is, broke))
 
-  stream_wants : IsTrue run.source_tells → Streams run answering → IsTrue run.sink_tells → run.status ≡ Memory → IsBegun answering [] run.before.left run.before.taken run.after.taken
+  stream_wants : IsTrue run.source_tells → Streams run lesson answering → IsTrue run.sink_tells → run.status ≡ Memory → IsBegun answering [] run.before.left run.before.taken run.after.taken
   stream_wants gives (answered is within stands) takes want = absurd (cc (is, want))
   stream_wants gives (cut_off is stands) takes want = absurd (cc (is, want))
   stream_wants gives (over_limit is more stands) takes want = absurd (cc (is, want))
   stream_wants gives (broken_off is stands) takes want = absurd (cc (is, want))
   stream_wants gives (out_of_memory is stands) takes want = stands gives takes
 
-module _ (run : Run) (outputs_agree : OfEachTree OutputsAgree) where
+module _ (run : Run) (lesson : Lesson) (outputs_agree : OfEachTree OutputsAgree) where
   -- the commands were answered
-  stream_answers : (kinds : List TileKind) (a : TreeAutomaton) (k : ℕ) → IsTrue run.source_tells → Serves (call_of run) kinds a k → IsAccepted kinds a → Streams run (over_walks kinds a k) → AnswersStream run kinds a k
+  stream_answers : (kinds : List TileKind) (a : TreeAutomaton) (k : ℕ) → IsTrue run.source_tells → Serves (call_of run lesson) kinds a k → IsAccepted kinds a → Streams run lesson (over_walks kinds a k) → AnswersStream run lesson kinds a k
   stream_answers kinds a k gives serves accepted ends =
       let by_walks = over_walks kinds a k in
       record {
-        answered = stream_answered run by_walks gives ends;
-        answered_over_tree = λ takes few. elim (stream_answered run by_walks gives ends takes few) [
-          | inl done ↦ inl (done.0, stands_over_tree outputs_agree (call_of run) kinds a k run.before.left run.after.left run.before.taken run.after.taken serves accepted done.1)
+        answered = stream_answered run lesson by_walks gives ends;
+        answered_over_tree = λ takes few. elim (stream_answered run lesson by_walks gives ends takes few) [
+          | inl done ↦ inl (done.0, stands_over_tree outputs_agree (call_of run lesson) kinds a k run.before.left run.after.left run.before.taken run.after.taken serves accepted done.1)
           | inr outside ↦ inr outside
         ];
-        refused = stream_over run by_walks gives ends;
-        over_limit = stream_long run by_walks gives ends;
-        at_done = stream_done run by_walks gives ends;
-        at_read_fault = stream_cut run by_walks gives ends;
-        at_input_too_long = stream_refused run by_walks gives ends;
-        at_write_fault = λ takes broke. inl (stream_broken run by_walks gives ends takes broke);
-        at_memory = stream_wants run by_walks gives ends;
+        refused = stream_over run lesson by_walks gives ends;
+        over_limit = stream_long run lesson by_walks gives ends;
+        at_done = stream_done run lesson by_walks gives ends;
+        at_read_fault = stream_cut run lesson by_walks gives ends;
+        at_input_too_long = stream_refused run lesson by_walks gives ends;
+        at_write_fault = λ takes broke. inl (stream_broken run lesson by_walks gives ends takes broke);
+        at_memory = stream_wants run lesson by_walks gives ends;
       }
 
   -- the commands were not read, for a cause of the outside or of memory
-  stream_unread : (kinds : List TileKind) (a : TreeAutomaton) (k : ℕ) → IsOutside run.status → (class_of run.status ≡ OfStream → ⊥) → (run.status ≡ WriteFault → (role : Role) × BeginsLine run (FileFault role)) → (run.status ≡ Memory → WritesNothing run) → AnswersStream run kinds a k
+  stream_unread : (kinds : List TileKind) (a : TreeAutomaton) (k : ℕ) → IsOutside run.status → (class_of run.status ≡ OfStream → ⊥) → (run.status ≡ WriteFault → (role : Role) × BeginsLine run lesson (FileFault role)) → (run.status ≡ Memory → WritesNothing run) → AnswersStream run lesson kinds a k
   stream_unread kinds a k outside unread broken silent = record {
     answered = λ takes few. inr (inl outside);
     answered_over_tree = λ takes few. inr (inl outside);
@@ -116,31 +117,31 @@ module _ (run : Run) (outputs_agree : OfEachTree OutputsAgree) where
     at_memory = λ takes want. nothing_begun (over_walks kinds a k) run.before.left run.before.taken run.after.taken (silent want takes);
   }
 
-  fault_begun : (saying : Saying) → IsFileFault saying → BeginsLine run saying → (role : Role) × BeginsLine run (FileFault role)
+  fault_begun : (saying : Saying) → IsFileFault saying → BeginsLine run lesson saying → (role : Role) × BeginsLine run lesson (FileFault role)
   fault_begun (Due answer) fault begins = absurd fault
   fault_begun (FileFault role) fault begins = (role, begins)
   fault_begun StoreFault fault begins = absurd fault
 
   -- a run that tells of a file that could not be read
-  said_outside : (saying : Saying) → IsFileFault saying → Says run saying → IsOutside run.status
-  said_outside saying fault (said is wrote) = between run is (fault_between saying fault)
-  said_outside saying fault (unsaid is kept) = between run is tt
-  said_outside saying fault (unwritten is part) = between run is tt
+  said_outside : (saying : Saying) → IsFileFault saying → Says run lesson saying → IsOutside run.status
+  said_outside saying fault (said is wrote) = between run lesson is (fault_between saying fault)
+  said_outside saying fault (unsaid is kept) = between run lesson is tt
+  said_outside saying fault (unwritten is part) = between run lesson is tt
 
   memory_unread : run.status ≡ Memory → class_of run.status ≡ OfStream → ⊥
   memory_unread is stream = let other : OfMemory ≡ OfStream = ap class_of (sym is) ∙ stream in absurd (cc other)
 
   -- what holds of the rules that a call serves holds of all that it may be said to serve
-  of_these : (kinds : List TileKind) (a : TreeAutomaton) (k : ℕ) → IsSessionOf (call_of run) kinds a k → (kinds' : List TileKind) (a' : TreeAutomaton) (k' : ℕ) → Serves (call_of run) kinds' a' k' → AnswersStream run kinds a k → AnswersStream run kinds' a' k'
+  of_these : (kinds : List TileKind) (a : TreeAutomaton) (k : ℕ) → IsSessionOf (call_of run lesson) kinds a k → (kinds' : List TileKind) (a' : TreeAutomaton) (k' : ℕ) → Serves (call_of run lesson) kinds' a' k' → AnswersStream run lesson kinds a k → AnswersStream run lesson kinds' a' k'
   of_these kinds a k known kinds' a' k' serves holds =
       let same = known.exact kinds' a' k' serves in
-      subst (λ (n : ℕ). AnswersStream run kinds' a' n) same.2 (subst (λ (x : TreeAutomaton). AnswersStream run kinds' x k) same.1 (subst (λ (ks : List TileKind). AnswersStream run ks a k) same.0 holds))
+      subst (λ (n : ℕ). AnswersStream run lesson kinds' a' n) same.2 (subst (λ (x : TreeAutomaton). AnswersStream run lesson kinds' x k) same.1 (subst (λ (ks : List TileKind). AnswersStream run lesson ks a k) same.0 holds))
 
-  pub stream_row : EndsRun run → IsTrue run.files_tell → IsTrue run.source_tells → (kinds : List TileKind) (a : TreeAutomaton) (k : ℕ) → Serves (call_of run) kinds a k → AnswersStream run kinds a k
+  pub stream_row : EndsRun run lesson → IsTrue run.files_tell → IsTrue run.source_tells → (kinds : List TileKind) (a : TreeAutomaton) (k : ℕ) → Serves (call_of run lesson) kinds a k → AnswersStream run lesson kinds a k
   stream_row (no_plan is kept) told gives kinds a k serves =
-      stream_unread kinds a k (between run is tt) (memory_unread is) (λ broke. absurd (cc (is, broke))) (λ want. kept)
-  stream_row (with_line saying known counted stored files formless says) told gives kinds a k serves =
+      stream_unread kinds a k (between run lesson is tt) (memory_unread is) (λ broke. absurd (cc (is, broke))) (λ want. kept)
+  stream_row (with_line saying known counted stored taught files formless says) told gives kinds a k serves =
       let fault = (known told).alone kinds a k serves in
-      stream_unread kinds a k (said_outside saying fault says) (said_stream run saying says) (λ broke. fault_begun saying fault (begun run saying known counted stored says broke)) (silent run saying says)
+      stream_unread kinds a k (said_outside saying fault says) (said_stream run lesson saying says) (λ broke. fault_begun saying fault (begun run lesson saying known counted stored taught says broke)) (silent run lesson saying says)
   stream_row (with_stream kinds' a' k' known accepted kept asked ends) told gives kinds a k serves =
       of_these kinds' a' k' (known told) kinds a k serves (stream_answers kinds' a' k' gives (known told).serves accepted ends)

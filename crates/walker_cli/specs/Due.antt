@@ -1,5 +1,5 @@
--- The table of answers: which answer is due to the words and to what the files hold, and over which
--- rules walkers are served instead.
+-- The table of answers: which answer is due to the words, to what the files hold and to what the
+-- teacher answers, and over which rules walkers are served instead.
 -- No fault of the outside and no want of memory comes between.
 -- Of a fault of the outside it is said which files may be fetched.
 -- Each form of the words has rows of its own.
@@ -18,9 +18,10 @@ use Rattle.walker_cli.specs.declared.answer.Saying.TheVariants.{StoreFault}
 use Rattle.walker_cli.specs.declared.answer.Answer.{Answer}
 use Rattle.walker_cli.specs.declared.answer.Answer.TheVariants.{TypeTold, Accepted, Usage}
 use Rattle.walker_cli.specs.Tasks.{Task, TellType, CheckRules, RunSession, LearnRules, Ask}
-use Rattle.walker_cli.specs.Tasks.{HaveNoForm, IsRunForm}
+use Rattle.walker_cli.specs.Tasks.{HaveNoForm, IsRunForm, RulesFrom, FromFile, FromTeacher}
 use Rattle.walker_cli.specs.Runs.{Call}
 use Rattle.walker_cli.specs.Held.{Loaded, Refused, Holds, IsTess, IsMade, RulesOf, tess_limit}
+use Rattle.walker_cli.specs.Held.{Lesson}
 
 -- what each file holds, by its name
 abbrev pub Contents : Type 0
@@ -47,56 +48,56 @@ pub data TypeRow (contents : Contents) (tess : List ℕ) (k : ℕ) (walk : List 
       → k < length kinds
       → TypeRow contents tess k walk (TypeTold (type_of kinds (k, 0) walk))
 
--- the rows of the form `check`, whose rules a file holds, and of `learn`, where none is named and
--- they are made
-pub data CheckRow (contents : Contents) (tess : List ℕ) (rules : Option (List ℕ)) :
+-- the rows of the form `check`, whose rules a file holds, and of `learn`, which asks a teacher
+pub data CheckRow (contents : Contents) (lesson : Lesson) (tess : List ℕ) (rules : RulesFrom) :
     Answer → Type 0 where
   -- the tessellation file is refused
   check_no_tess :
       (answer : Answer)
       → IsTess contents tess (Refused answer)
-      → CheckRow contents tess rules answer
+      → CheckRow contents lesson tess rules answer
   -- the rules file is refused, or no rules are made
   check_no_rules :
       (kinds : List TileKind) (answer : Answer)
       → IsTess contents tess (Loaded kinds)
-      → RulesOf contents kinds rules (Refused answer)
-      → CheckRow contents tess rules answer
+      → RulesOf contents lesson kinds rules (Refused answer)
+      → CheckRow contents lesson tess rules answer
   -- the rules are accepted
   check_accepted :
       (kinds : List TileKind) (a : TreeAutomaton)
       → IsTess contents tess (Loaded kinds)
-      → RulesOf contents kinds rules (Loaded a)
-      → CheckRow contents tess rules (Accepted (length a.states) (length a.corners))
+      → RulesOf contents lesson kinds rules (Loaded a)
+      → CheckRow contents lesson tess rules (Accepted (length a.states) (length a.corners))
 
 -- the rows of the form `run`, where no walkers are served
-pub data SessionRow (contents : Contents) (tess : List ℕ) (k : ℕ) (rules : Option (List ℕ)) :
+pub data SessionRow
+    (contents : Contents) (lesson : Lesson) (tess : List ℕ) (k : ℕ) (rules : RulesFrom) :
     Answer → Type 0 where
   -- the tessellation file is refused
   session_no_tess :
       (answer : Answer)
       → IsTess contents tess (Refused answer)
-      → SessionRow contents tess k rules answer
+      → SessionRow contents lesson tess k rules answer
   -- the words name no kind of the tessellation
   session_no_kind :
       (kinds : List TileKind)
       → IsTess contents tess (Loaded kinds)
       → length kinds ≤ k
-      → SessionRow contents tess k rules Usage
+      → SessionRow contents lesson tess k rules Usage
   -- the rules file is refused, or no rules are made
   session_no_rules :
       (kinds : List TileKind) (answer : Answer)
       → IsTess contents tess (Loaded kinds)
       → k < length kinds
-      → RulesOf contents kinds rules (Refused answer)
-      → SessionRow contents tess k rules answer
+      → RulesOf contents lesson kinds rules (Refused answer)
+      → SessionRow contents lesson tess k rules answer
 
 -- the rows of a task
-abbrev pub Row : Contents → Task → Answer → Type 0
-Row contents (TellType tess k walk) = TypeRow contents tess k walk
-Row contents (CheckRules tess rules) = CheckRow contents tess (Some rules)
-Row contents (RunSession tess k rules) = SessionRow contents tess k rules
-Row contents (LearnRules tess out) = CheckRow contents tess None
+abbrev pub Row : Contents → Lesson → Task → Answer → Type 0
+Row contents lesson (TellType tess k walk) = TypeRow contents tess k walk
+Row contents lesson (CheckRules tess rules) = CheckRow contents lesson tess (FromFile rules)
+Row contents lesson (RunSession tess k rules) = SessionRow contents lesson tess k rules
+Row contents lesson (LearnRules tess cells out) = CheckRow contents lesson tess (FromTeacher cells)
 
 pub data IsDue (call : Call) : Answer → Type 0 where
   -- the words are in no form
@@ -105,24 +106,25 @@ pub data IsDue (call : Call) : Answer → Type 0 where
   by_task :
       (task : Task) (answer : Answer)
       → Ask call.words task
-      → Row call.contents task answer
+      → Row call.contents call.lesson task answer
       → IsDue call answer
 
 -- The words are `run TESS K`, the files hold what they should within their limits, and K is a kind
 -- of the tessellation.
 -- The automaton is the one that the rules file spells, and meets the twelve conditions; or no rules
--- file is named, and it is the one that is made for the tessellation.
+-- file is named, and it is the one that is made for a regular tessellation, or that the teacher
+-- answers for another one.
 -- Then the commands of the input are answered.
 pub record Serves (call : Call) (kinds : List TileKind) (automaton : TreeAutomaton) (k : ℕ) :
     Type 0 where
   pub tess : List ℕ
-  pub rules : Option (List ℕ)
+  pub rules : RulesFrom
   pub tess_bytes : List ℕ
   pub form : IsRunForm call.words tess k rules
   pub holds_tess : Holds call.contents tess tess_limit tess_bytes
   pub tess_spelling : IsSpelling tess_bytes kinds
   pub valid : IsValid kinds
-  pub loaded : RulesOf call.contents kinds rules (Loaded automaton)
+  pub loaded : RulesOf call.contents call.lesson kinds rules (Loaded automaton)
   pub is_kind : k < length kinds
 
 -- the call serves walkers, over some rules and a kind
@@ -138,10 +140,10 @@ FetchesFor contents task Tess = Unit {0}
 FetchesFor contents (TellType tess k walk) Rules = ⊥
 FetchesFor contents (CheckRules tess rules) Rules =
     (kinds : List TileKind) × IsTess contents tess (Loaded kinds)
-FetchesFor contents (RunSession tess k (Some rules)) Rules =
+FetchesFor contents (RunSession tess k (FromFile rules)) Rules =
     (kinds : List TileKind) × IsTess contents tess (Loaded kinds) × (k < length kinds)
-FetchesFor contents (RunSession tess k None) Rules = ⊥
-FetchesFor contents (LearnRules tess out) Rules = ⊥
+FetchesFor contents (RunSession tess k (FromTeacher cells)) Rules = ⊥
+FetchesFor contents (LearnRules tess cells out) Rules = ⊥
 
 -- the call asks for a task that fetches the file of this role
 pub record Fetches (call : Call) (role : Role) : Type 0 where
@@ -149,27 +151,28 @@ pub record Fetches (call : Call) (role : Role) : Type 0 where
   pub ask : Ask call.words task
   pub reached : FetchesFor call.contents task role
 
--- These rules are made for the tessellation that the file holds.
+-- These rules are made for the tessellation that the file holds, with so many cells.
 pub record Makes
-    (contents : Contents) (tess : List ℕ) (kinds : List TileKind) (automaton : TreeAutomaton) :
-    Type 0 where
+    (contents : Contents) (lesson : Lesson) (tess : List ℕ) (cells : ℕ)
+    (kinds : List TileKind) (automaton : TreeAutomaton) : Type 0 where
   pub loaded : IsTess contents tess (Loaded kinds)
-  pub made : IsMade kinds (Loaded automaton)
+  pub made : IsMade lesson kinds cells (Loaded automaton)
 
 -- where a task stores rules
-abbrev pub StoresFor : Contents → Task → Type 0
-StoresFor contents (TellType tess k walk) = ⊥
-StoresFor contents (CheckRules tess rules) = ⊥
-StoresFor contents (RunSession tess k rules) = ⊥
-StoresFor contents (LearnRules tess None) = ⊥
-StoresFor contents (LearnRules tess (Some out)) =
-    (kinds : List TileKind) × (automaton : TreeAutomaton) × Makes contents tess kinds automaton
+abbrev pub StoresFor : Contents → Lesson → Task → Type 0
+StoresFor contents lesson (TellType tess k walk) = ⊥
+StoresFor contents lesson (CheckRules tess rules) = ⊥
+StoresFor contents lesson (RunSession tess k rules) = ⊥
+StoresFor contents lesson (LearnRules tess cells None) = ⊥
+StoresFor contents lesson (LearnRules tess cells (Some out)) =
+    (kinds : List TileKind) × (automaton : TreeAutomaton)
+    × Makes contents lesson tess cells kinds automaton
 
 -- the call asks for a task that stores rules
 pub record Stores (call : Call) : Type 0 where
   pub task : Task
   pub ask : Ask call.words task
-  pub reached : StoresFor call.contents task
+  pub reached : StoresFor call.contents call.lesson task
 
 -- What a call may say: the answer that is due, that a file which it fetches could not be read, or
 -- that the file which it stores could not be written.

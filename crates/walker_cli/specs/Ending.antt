@@ -19,6 +19,8 @@ use Rattle.walker_cli.specs.declared.answer.Answer.TheVariants.{Usage}
 use Rattle.walker_cli.specs.declared.answer.Saying.{Saying}
 use Rattle.walker_cli.specs.declared.answer.Saying.TheVariants.{Due}
 use Rattle.walker_cli.specs.Tasks.{HaveNoForm, AreNotOfRun, IsLearnForm}
+use Rattle.walker_cli.specs.Held.{Lesson}
+use Rattle.walker_cli.specs.Outcome.{IsTaught}
 use Rattle.walker_cli.specs.Runs.{Call, Run, call_of}
 use Rattle.walker_cli.specs.Due.{IsDue, Serves, Makes, MaySay, IsFileFault, IsStoreFault}
 use Rattle.walker_cli.specs.StatusLines.{saying_status, saying_line}
@@ -87,37 +89,49 @@ pub record IsSessionOf (call : Call) (kinds : List TileKind) (a : TreeAutomaton)
   pub alone : (answer : Answer) → IsDue call answer → ⊥
 
 -- What the files hold where this is said: all as before, unless rules were stored.
--- Where the words name a file for rules that are made, an answer is said only after they stand in it.
-pub record KeepsFiles (run : Run) (saying : Saying) : Type 0 where
+-- Where the words name a file for rules that are made, an answer is said only after they stand in
+-- it.
+pub record KeepsFiles (run : Run) (lesson : Lesson) (saying : Saying) : Type 0 where
   pub kept :
       KeepsAll run.before.contents run.after.contents ⊎ MayStore (saying_status saying)
   pub stored :
-      (tess out : List ℕ) (kinds : List TileKind) (a : TreeAutomaton)
-      → IsLearnForm run.words tess (Some out)
-      → Makes run.before.contents tess kinds a
+      (tess out : List ℕ) (cells : ℕ) (kinds : List TileKind) (a : TreeAutomaton)
+      → IsLearnForm run.words tess cells (Some out)
+      → Makes run.before.contents lesson tess cells kinds a
       → HasStored run.after.contents out a saying
 
--- A run ends for want of memory, with a line, or with the commands of the input.
-pub data EndsRun (run : Run) : Type 0 where
+-- A run in which the teacher answers this ends for want of memory, with a line, or with the
+-- commands of the input.
+pub data EndsRun (run : Run) (lesson : Lesson) : Type 0 where
   no_plan :
       run.status ≡ Memory
       → (IsTrue run.sink_tells → run.after.taken ≡ run.before.taken)
-      → EndsRun run
+      → EndsRun run lesson
   with_line :
       (saying : Saying)
-      → (IsTrue run.files_tell → IsSayingOf (call_of run) saying)
+      → (IsTrue run.files_tell → IsSayingOf (call_of run lesson) saying)
       → (IsFileFault saying → Rose run.before.failed_fetches run.after.failed_fetches)
       → (IsStoreFault saying → Rose run.before.failed_stores run.after.failed_stores)
-      → (IsTrue run.files_tell → KeepsFiles run saying)
+      → IsTaught run saying
+      → (IsTrue run.files_tell → KeepsFiles run lesson saying)
       → (HaveNoForm run.words → saying ≡ Due Usage)
       → SaysLine run.sink_tells saying run.before.taken run.after.taken run.status
-      → EndsRun run
+      → EndsRun run lesson
   with_stream :
       (kinds : List TileKind) (a : TreeAutomaton) (k : ℕ)
-      → (IsTrue run.files_tell → IsSessionOf (call_of run) kinds a k)
+      → (IsTrue run.files_tell → IsSessionOf (call_of run lesson) kinds a k)
       → IsAccepted kinds a
       → (IsTrue run.files_tell → KeepsAll run.before.contents run.after.contents)
       → ¬ AreNotOfRun run.words
       → EndsStream run.source_tells run.sink_tells (over_walks kinds a k)
       run.before.left run.after.left run.before.taken run.after.taken run.status
-      → EndsRun run
+      → EndsRun run lesson
+
+-- The run ends so, for some answer of the teacher.
+-- Where an answer is due the input is left alone.
+pub record EndsTaught (run : Run) : Type 0 where
+  pub lesson : Lesson
+  pub ends : EndsRun run lesson
+  pub unread :
+      IsTrue run.files_tell → (answer : Answer)
+      → IsDue (call_of run lesson) answer → run.after.left ≡ run.before.left

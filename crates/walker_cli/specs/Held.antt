@@ -1,6 +1,6 @@
 -- What the files hold, where they tell it: a tessellation or rules, or the answer that refuses
 -- them.
-use Rattle.std.specs.Prelude.{◌≡◌, ℕ, ◌<◌, ◌≤◌, List, length, Option, Some, None}
+use Rattle.std.specs.Prelude.{◌≡◌, ℕ, ◌<◌, ◌≤◌, List, length, Option, Some}
 use Rattle.tile_model.specs.Tessellations.{TileKind}
 use Rattle.tile_model.specs.Validity.{IsValid}
 use Rattle.tile_model.specs.declared.fault.KindFault.{KindFault}
@@ -17,9 +17,11 @@ use Rattle.walker_cli.specs.declared.answer.Role.TheVariants.{Tess, Rules}
 use Rattle.walker_cli.specs.declared.answer.Answer.{Answer}
 use Rattle.walker_cli.specs.declared.answer.Answer.TheVariants.{FileTooLong, TessLine, TessKinds}
 use Rattle.walker_cli.specs.declared.answer.Answer.TheVariants.{RulesSyntax, RulesShape, Broken}
-use Rattle.walker_cli.specs.declared.answer.Answer.TheVariants.{Usage, Spherical}
+use Rattle.walker_cli.specs.declared.answer.Answer.TheVariants.{Spherical, Closed, GaveUp}
+use Rattle.walker_cli.specs.Tasks.{RulesFrom, FromFile, FromTeacher}
 use Rattle.regular_maker.specs.Regular.{IsRegular, IsInfinite, IsSpherical, p_of, q_of}
 use Rattle.regular_maker.specs.Automaton.{regular_automaton}
+use Rattle.state_learner.specs.Learning.{HasClosed}
 
 -- the greatest number of bytes of a tessellation file and of a rules file
 abbrev pub tess_limit : ℕ
@@ -113,23 +115,47 @@ pub data IsRules (contents : List ℕ → Option (List ℕ)) (kinds : List TileK
       → IsAccepted kinds a
       → IsRules contents kinds file (Loaded a)
 
--- what the making of rules comes to, for the kinds of a tessellation
-pub data IsMade (kinds : List TileKind) : Outcome TreeAutomaton → Type 0 where
-  -- it is not regular: no rules are made for it yet
-  made_none : ¬ IsRegular kinds → IsMade kinds (Refused Usage)
+-- What a teacher may have answered in a call, where one was asked and there was memory for the
+-- answer: rules, or the answer that refuses them.
+abbrev pub Lesson : Type 0
+Lesson = Option (Outcome TreeAutomaton)
+
+-- What a teacher that may make so many cells may answer of a tessellation that is not regular: that
+-- there are finitely many tiles, or that it gave up; or rules that meet the twelve conditions.
+abbrev pub MayRefuse : List TileKind → ℕ → Answer → Type 0
+MayRefuse kinds cells (Closed n) = HasClosed kinds n
+MayRefuse kinds cells (GaveUp n) = n ≡ cells
+MayRefuse kinds cells _ = ⊥
+
+abbrev pub MayTeach : List TileKind → ℕ → Outcome TreeAutomaton → Type 0
+MayTeach kinds cells (Loaded a) = IsAccepted kinds a
+MayTeach kinds cells (Refused answer) = MayRefuse kinds cells answer
+
+-- What the making of rules comes to, for the kinds of a tessellation and so many cells.
+-- For a regular tessellation the teacher has no choice.
+pub data IsMade (lesson : Lesson) (kinds : List TileKind) (cells : ℕ) :
+    Outcome TreeAutomaton → Type 0 where
   -- it is regular, and lies on the sphere
   made_spherical :
       IsRegular kinds
       → IsSpherical (p_of kinds) (q_of kinds)
-      → IsMade kinds (Refused (Spherical (p_of kinds) (q_of kinds)))
+      → IsMade lesson kinds cells (Refused (Spherical (p_of kinds) (q_of kinds)))
   -- it is regular, and has infinitely many tiles
   made_rules :
       IsRegular kinds
       → IsInfinite (p_of kinds) (q_of kinds)
-      → IsMade kinds (Loaded (regular_automaton (p_of kinds) (q_of kinds)))
+      → IsMade lesson kinds cells (Loaded (regular_automaton (p_of kinds) (q_of kinds)))
+  -- it is not regular: what the teacher answered
+  made_taught :
+      (outcome : Outcome TreeAutomaton)
+      → ¬ IsRegular kinds
+      → lesson ≡ Some outcome
+      → MayTeach kinds cells outcome
+      → IsMade lesson kinds cells outcome
 
--- what the rules come to that a file holds, or that are made where none is named
+-- what the rules come to that a file holds, or that a teacher answers
 abbrev pub RulesOf :
-    (List ℕ → Option (List ℕ)) → List TileKind → Option (List ℕ) → Outcome TreeAutomaton → Type 0
-RulesOf contents kinds (Some file) outcome = IsRules contents kinds file outcome
-RulesOf contents kinds None outcome = IsMade kinds outcome
+    (List ℕ → Option (List ℕ)) → Lesson → List TileKind → RulesFrom → Outcome TreeAutomaton
+    → Type 0
+RulesOf contents lesson kinds (FromFile file) outcome = IsRules contents kinds file outcome
+RulesOf contents lesson kinds (FromTeacher cells) outcome = IsMade lesson kinds cells outcome

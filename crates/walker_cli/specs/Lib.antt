@@ -5,6 +5,7 @@ pub mod StatusLines
 pub mod Held
 pub mod Due
 pub mod Loading
+pub mod Teaching
 pub mod Outcome
 pub mod Serving
 pub mod Promise

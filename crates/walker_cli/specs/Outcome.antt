@@ -19,8 +19,10 @@ use Rattle.regular_maker.specs.Regular.{IsRegular, IsInfinite, p_of, q_of}
 use Rattle.regular_maker.specs.Automaton.{regular_automaton}
 use Rattle.walker_cli.specs.Tasks.{IsKindForm, IsLearnForm}
 use Rattle.walker_cli.specs.Runs.{Call, Run, call_of}
-use Rattle.walker_cli.specs.Held.{Holds, tess_limit, rules_limit}
+use Rattle.walker_cli.specs.Held.{Holds, Lesson, tess_limit, rules_limit}
 use Rattle.walker_cli.specs.Due.{IsDue}
+use Rattle.walker_cli.specs.Teaching.{IsTaughtIn}
+use Rattle.walker_cli.specs.declared.answer.Saying.{Saying}
 
 -- what a run wrote, where its sink tells: exactly this, a beginning of it, or nothing
 abbrev pub Writes : Run → List ℕ → Type 0
@@ -55,17 +57,23 @@ GivesAtOnce run status line =
     ((run.status ≡ status) × Writes run line)
     ⊎ ((run.status ≡ Memory) ⊎ (run.status ≡ WriteFault))
 
--- The status comes only where an answer with this status is due, and then exactly its line was
--- written.
+-- what is said is known of the teacher, if it answers so
+abbrev pub IsTaught : Run → Saying → Type 0
+IsTaught run saying =
+    IsTaughtIn run.files_tell run.before.contents run.words run.before.give_ups run.after.give_ups
+    run.after.last_give_up saying
+
+-- The status comes only where an answer with this status is due, if the teacher answers this, and
+-- then exactly its line was written.
 -- Where such an answer is due it comes, unless the outside or memory fails.
-pub record ComesExactly (run : Run) (status : Status) : Type 0 where
+pub record ComesExactly (run : Run) (lesson : Lesson) (status : Status) : Type 0 where
   pub only :
       run.status ≡ status
-      → (answer : Answer) × IsDue (call_of run) answer × (status_of answer ≡ status)
+      → (answer : Answer) × IsDue (call_of run lesson) answer × (status_of answer ≡ status)
       × Writes run (line_of answer)
   pub always :
       (answer : Answer)
-      → IsDue (call_of run) answer
+      → IsDue (call_of run lesson) answer
       → status_of answer ≡ status
       → Gives run status (line_of answer)
 
@@ -113,10 +121,11 @@ pub record TellsAccepted (call : Call) (line : List ℕ) : Type 0 where
 -- The line tells how many states and corner types its rules have.
 pub record TellsLearnt (call : Call) (line : List ℕ) : Type 0 where
   pub tess : List ℕ
+  pub cells : ℕ
   pub out : Option (List ℕ)
   pub bytes : List ℕ
   pub kinds : List TileKind
-  pub form : IsLearnForm call.words tess out
+  pub form : IsLearnForm call.words tess cells out
   pub holds : Holds call.contents tess tess_limit bytes
   pub spelling : IsSpelling bytes kinds
   pub valid : IsValid kinds

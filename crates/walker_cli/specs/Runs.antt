@@ -1,15 +1,19 @@
 -- A run of the program from its beginning to its end, with all that is seen of its outside.
 use Rattle.std.specs.Prelude.{ℕ, Bool, List, Option}
+use Rattle.state_learner.specs.GiveUps.{GiveUp}
 use Rattle.walker_cli.specs.declared.status.Status.{Status}
+use Rattle.walker_cli.specs.Held.{Lesson}
 
--- a call of the program: its words, and what each file holds before it
+-- A call of the program: its words, what each file holds before it, and what the teacher answers.
+-- These alone decide what is due to it.
 pub record Call : Type 0 where
   pub words : List (List ℕ)
   pub contents : List ℕ → Option (List ℕ)
+  pub lesson : Lesson
 
--- What the files, the source and the sink tell at one moment.
--- That is what each file holds, which bytes are left to be read, which bytes were taken, and how
--- often each kind of call failed.
+-- What the files, the source, the sink and the teacher tell at one moment.
+-- That is what each file holds, which bytes are left to be read, which bytes were taken, how often
+-- each kind of call failed, how often the teacher gave up, and on what it did so last.
 pub record Outside : Type 0 where
   pub contents : List ℕ → Option (List ℕ)
   pub failed_fetches : ℕ
@@ -18,6 +22,8 @@ pub record Outside : Type 0 where
   pub failed_reads : ℕ
   pub taken : List ℕ
   pub failed_writes : ℕ
+  pub give_ups : ℕ
+  pub last_give_up : Option GiveUp
 
 -- a run: its words, which parts of the outside tell their bytes, the outside before and after, and
 -- the status
@@ -30,26 +36,30 @@ pub record Run : Type 0 where
   pub after : Outside
   pub status : Status
 
-abbrev pub call_with : List (List ℕ) → (List ℕ → Option (List ℕ)) → Call
-call_with words contents = record { words = words; contents = contents }
+abbrev pub call_with : List (List ℕ) → (List ℕ → Option (List ℕ)) → Lesson → Call
+call_with words contents lesson = record { words = words; contents = contents; lesson = lesson }
 
--- the call that a run begins with
-abbrev pub call_of : Run → Call
-call_of run = call_with run.words run.before.contents
+-- the call that a run begins with, where the teacher answers this
+abbrev pub call_of : Run → Lesson → Call
+call_of run lesson = call_with run.words run.before.contents lesson
 
--- what files, a source and a sink tell, by the words that their types have for it
+-- what files, a source, a sink and a teacher tell, by the words that their types have for it
 abbrev pub seen :
-    {F I O : Type 0}
+    {F I O T : Type 0}
     → (F → List ℕ → Option (List ℕ)) → (F → ℕ) → (F → ℕ)
     → (I → List ℕ) → (I → ℕ)
     → (O → List ℕ) → (O → ℕ)
-    → F → I → O → Outside
-seen contents fetches stores left reads taken writes files input out = record {
-  contents = contents files;
-  failed_fetches = fetches files;
-  failed_stores = stores files;
-  left = left input;
-  failed_reads = reads input;
-  taken = taken out;
-  failed_writes = writes out;
-}
+    → (T → ℕ) → (T → Option GiveUp)
+    → F → I → O → T → Outside
+seen contents fetches stores left reads taken writes give_ups last files input out teacher =
+    record {
+      contents = contents files;
+      failed_fetches = fetches files;
+      failed_stores = stores files;
+      left = left input;
+      failed_reads = reads input;
+      taken = taken out;
+      failed_writes = writes out;
+      give_ups = give_ups teacher;
+      last_give_up = last teacher;
+    }

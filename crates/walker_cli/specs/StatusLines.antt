@@ -14,6 +14,8 @@ use Rattle.walker_cli.specs.declared.status.Status.TheVariants.{TessRefused, Rul
 use Rattle.walker_cli.specs.declared.status.Status.TheVariants.{Memory, ReadFault, WriteFault}
 use Rattle.walker_cli.specs.declared.status.Status.TheVariants.{InputTooLong}
 use Rattle.walker_cli.specs.declared.status.Status.TheVariants.{Spherical as SphericalStatus}
+use Rattle.walker_cli.specs.declared.status.Status.TheVariants.{Closed as ClosedStatus}
+use Rattle.walker_cli.specs.declared.status.Status.TheVariants.{GaveUp as GaveUpStatus}
 use Rattle.walker_cli.specs.declared.status.Status.TheVariants.{StoreFault as StoreFaultStatus}
 use Rattle.walker_cli.specs.declared.answer.Role.{Role}
 use Rattle.walker_cli.specs.declared.answer.Role.TheVariants.{Tess, Rules}
@@ -21,7 +23,7 @@ use Rattle.walker_cli.specs.declared.answer.Answer.{Answer}
 use Rattle.walker_cli.specs.declared.answer.Saying.{Saying}
 use Rattle.walker_cli.specs.declared.answer.Saying.TheVariants.{Due, FileFault, StoreFault}
 use Rattle.walker_cli.specs.declared.answer.Answer.TheVariants.{TypeTold, Accepted, Usage}
-use Rattle.walker_cli.specs.declared.answer.Answer.TheVariants.{Spherical}
+use Rattle.walker_cli.specs.declared.answer.Answer.TheVariants.{Spherical, Closed, GaveUp}
 use Rattle.walker_cli.specs.declared.answer.Answer.TheVariants.{FileTooLong, TessLine, TessKinds}
 use Rattle.walker_cli.specs.declared.answer.Answer.TheVariants.{RulesSyntax, RulesShape, Broken}
 
@@ -35,11 +37,22 @@ code_of TessRefused = 5
 code_of RulesText = 6
 code_of NotAccepted = 7
 code_of SphericalStatus = 8
+code_of ClosedStatus = 9
+code_of GaveUpStatus = 10
 code_of Memory = 11
 code_of ReadFault = 12
 code_of WriteFault = 13
 code_of StoreFaultStatus = 14
 code_of InputTooLong = 15
+
+-- The statuses of a refusal: it comes before any command is read.
+abbrev pub IsRefusal : Status → Type 0
+IsRefusal Done = ⊥
+IsRefusal Memory = ⊥
+IsRefusal ReadFault = ⊥
+IsRefusal WriteFault = ⊥
+IsRefusal InputTooLong = ⊥
+IsRefusal _ = Unit {0}
 
 -- What a status tells of: the line of an answer, the outside, the stream of commands, or memory.
 pub data Class : Type 0 where
@@ -57,6 +70,8 @@ class_of TessRefused = OfLine
 class_of RulesText = OfLine
 class_of NotAccepted = OfLine
 class_of SphericalStatus = OfLine
+class_of ClosedStatus = OfLine
+class_of GaveUpStatus = OfLine
 class_of Memory = OfMemory
 class_of ReadFault = OfStream
 class_of WriteFault = OfOutside
@@ -75,6 +90,8 @@ status_of RulesSyntax = RulesText
 status_of (RulesShape part index) = RulesText
 status_of (Broken at) = NotAccepted
 status_of (Spherical p q) = SphericalStatus
+status_of (Closed n) = ClosedStatus
+status_of (GaveUp cells) = GaveUpStatus
 
 -- numbers, each behind a space, and a line feed
 abbrev pub numbers_text : List ℕ → List ℕ
@@ -117,6 +134,8 @@ line_of RulesSyntax = numbered (codes "rules syntax") []
 line_of (RulesShape part index) = numbered (shape_words_of part) (index ∷ [])
 line_of (Broken at) = numbered (codes "broken") (at.condition ∷ at.first ∷ at.second ∷ [])
 line_of (Spherical p q) = numbered (codes "spherical") (p ∷ q ∷ [])
+line_of (Closed n) = numbered (codes "closed") (n ∷ [])
+line_of (GaveUp cells) = numbered (codes "gave up") (cells ∷ [])
 
 -- the line that tells of a file that could not be read
 abbrev pub fault_line : Role → List ℕ

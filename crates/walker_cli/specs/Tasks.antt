@@ -4,15 +4,20 @@ use Rattle.short_numbers.specs.Numbers.{IsNumber}
 use Rattle.tile_model.specs.declared.Letter.{Letter}
 use Rattle.tile_model.specs.WalkTexts.{walk_text}
 
+-- where the rules of a session come from: from the file of this name, or from a teacher that may
+-- make so many cells
+pub data RulesFrom : Type 0 where
+  FromFile : List ℕ → RulesFrom
+  FromTeacher : ℕ → RulesFrom
+
 -- to tell the type that a walk leads to from the start of kind k, to check rules, to answer the
 -- commands of the input over rules, in the tree of kind k, or to learn rules
 pub data Task : Type 0 where
   TellType : (tess : List ℕ) (k : ℕ) (walk : List Letter) → Task
   CheckRules : (tess rules : List ℕ) → Task
-  -- over the rules of a file, or over those that are made where none is named
-  RunSession : (tess : List ℕ) (k : ℕ) (rules : Option (List ℕ)) → Task
-  -- and to store them in a file, where one is named
-  LearnRules : (tess : List ℕ) (out : Option (List ℕ)) → Task
+  RunSession : (tess : List ℕ) (k : ℕ) (rules : RulesFrom) → Task
+  -- from a teacher that may make so many cells, and to store them in a file, where one is named
+  LearnRules : (tess : List ℕ) (cells : ℕ) (out : Option (List ℕ)) → Task
 
 -- `kind TESS K LETTERS`
 pub record IsKindForm (words : List (List ℕ)) (tess : List ℕ) (k : ℕ) (walk : List Letter) :
@@ -21,36 +26,40 @@ pub record IsKindForm (words : List (List ℕ)) (tess : List ℕ) (k : ℕ) (wal
   pub number : IsNumber digits k
   pub spelled : words ≡ codes "kind" ∷ tess ∷ digits ∷ walk_text walk ∷ []
 
--- The word behind `--cells`: a number from 1 to 1,000,000.
--- It has no effect yet, since no rules that are made need cells.
-pub record IsCells (digits : List ℕ) : Type 0 where
-  pub cells : ℕ
+-- the word behind `--cells`: a number from 1 to 1,000,000
+pub record IsCells (digits : List ℕ) (cells : ℕ) : Type 0 where
   pub number : IsNumber digits cells
   pub least : 1 ≤ cells
   pub most : cells ≤ 1000000
 
--- the options of the form `run`, and the rules file that they name
-pub data RunOptions : List (List ℕ) → Option (List ℕ) → Type 0 where
-  run_plain : RunOptions [] None
-  run_rules : (rules : List ℕ) → RunOptions (codes "--rules" ∷ rules ∷ []) (Some rules)
-  run_cells : (cells : List ℕ) → IsCells cells → RunOptions (codes "--cells" ∷ cells ∷ []) None
+-- the cells that a teacher may make where the words name no number
+abbrev pub default_cells : ℕ
+default_cells = 50000
 
--- the options of the form `learn`, and the file that they name to store rules in
-pub data LearnOptions : List (List ℕ) → Option (List ℕ) → Type 0 where
-  learn_plain : LearnOptions [] None
-  learn_out : (out : List ℕ) → LearnOptions (codes "--out" ∷ out ∷ []) (Some out)
+-- the options of the form `run`, and where they say that the rules come from
+pub data RunOptions : List (List ℕ) → RulesFrom → Type 0 where
+  run_plain : RunOptions [] (FromTeacher default_cells)
+  run_rules : (rules : List ℕ) → RunOptions (codes "--rules" ∷ rules ∷ []) (FromFile rules)
+  run_cells :
+      (digits : List ℕ) (cells : ℕ) → IsCells digits cells
+      → RunOptions (codes "--cells" ∷ digits ∷ []) (FromTeacher cells)
+
+-- the options of the form `learn`: the cells, and the file that they name to store rules in
+pub data LearnOptions : List (List ℕ) → ℕ → Option (List ℕ) → Type 0 where
+  learn_plain : LearnOptions [] default_cells None
+  learn_out : (out : List ℕ) → LearnOptions (codes "--out" ∷ out ∷ []) default_cells (Some out)
   learn_cells :
-      (cells : List ℕ) → IsCells cells
-      → LearnOptions (codes "--cells" ∷ cells ∷ []) None
+      (digits : List ℕ) (cells : ℕ) → IsCells digits cells
+      → LearnOptions (codes "--cells" ∷ digits ∷ []) cells None
   learn_cells_out :
-      (cells out : List ℕ) → IsCells cells
-      → LearnOptions (codes "--cells" ∷ cells ∷ codes "--out" ∷ out ∷ []) (Some out)
+      (digits out : List ℕ) (cells : ℕ) → IsCells digits cells
+      → LearnOptions (codes "--cells" ∷ digits ∷ codes "--out" ∷ out ∷ []) cells (Some out)
   learn_out_cells :
-      (out cells : List ℕ) → IsCells cells
-      → LearnOptions (codes "--out" ∷ out ∷ codes "--cells" ∷ cells ∷ []) (Some out)
+      (out digits : List ℕ) (cells : ℕ) → IsCells digits cells
+      → LearnOptions (codes "--out" ∷ out ∷ codes "--cells" ∷ digits ∷ []) cells (Some out)
 
 -- `run TESS K`, with at most one option: `--rules RULES` or `--cells N`
-pub record IsRunForm (words : List (List ℕ)) (tess : List ℕ) (k : ℕ) (rules : Option (List ℕ)) :
+pub record IsRunForm (words : List (List ℕ)) (tess : List ℕ) (k : ℕ) (rules : RulesFrom) :
     Type 0 where
   pub digits : List ℕ
   pub options : List (List ℕ)
@@ -59,10 +68,10 @@ pub record IsRunForm (words : List (List ℕ)) (tess : List ℕ) (k : ℕ) (rule
   pub spelled : words ≡ codes "run" ∷ tess ∷ digits ∷ options
 
 -- `learn TESS`, with the options `--cells N` and `--out OUT`, in any order, each at most once
-pub record IsLearnForm (words : List (List ℕ)) (tess : List ℕ) (out : Option (List ℕ)) :
-    Type 0 where
+pub record IsLearnForm
+    (words : List (List ℕ)) (tess : List ℕ) (cells : ℕ) (out : Option (List ℕ)) : Type 0 where
   pub options : List (List ℕ)
-  pub chosen : LearnOptions options out
+  pub chosen : LearnOptions options cells out
   pub spelled : words ≡ codes "learn" ∷ tess ∷ options
 
 -- the words ask for this task
@@ -71,7 +80,7 @@ Ask words (TellType tess k walk) = IsKindForm words tess k walk
 -- `check TESS RULES`
 Ask words (CheckRules tess rules) = words ≡ codes "check" ∷ tess ∷ rules ∷ []
 Ask words (RunSession tess k rules) = IsRunForm words tess k rules
-Ask words (LearnRules tess out) = IsLearnForm words tess out
+Ask words (LearnRules tess cells out) = IsLearnForm words tess cells out
 
 -- the words are in no form
 abbrev pub HaveNoForm : List (List ℕ) → Type 0
@@ -80,13 +89,44 @@ HaveNoForm words = (task : Task) → Ask words task → ⊥
 -- the words are not of the form `run`
 abbrev pub AreNotOfRun : List (List ℕ) → Type 0
 AreNotOfRun words =
-    (tess : List ℕ) (k : ℕ) (rules : Option (List ℕ)) → IsRunForm words tess k rules → ⊥
+    (tess : List ℕ) (k : ℕ) (rules : RulesFrom) → IsRunForm words tess k rules → ⊥
 
 -- the words are not of the form `learn`
 abbrev pub AreNotOfLearn : List (List ℕ) → Type 0
-AreNotOfLearn words = (tess : List ℕ) (out : Option (List ℕ)) → IsLearnForm words tess out → ⊥
+AreNotOfLearn words =
+    (tess : List ℕ) (cells : ℕ) (out : Option (List ℕ)) → IsLearnForm words tess cells out → ⊥
+
+-- so many cells may be asked for
+abbrev pub AreCells : ℕ → Type 0
+AreCells cells = (1 ≤ cells) × (cells ≤ 1000000)
+
+-- rules of this origin, and a task, ask for no other number of cells
+abbrev pub AskInRange : RulesFrom → Type 0
+AskInRange (FromFile file) = Unit {0}
+AskInRange (FromTeacher cells) = AreCells cells
+
+abbrev pub IsInRange : Task → Type 0
+IsInRange (TellType tess k walk) = Unit {0}
+IsInRange (CheckRules tess rules) = Unit {0}
+IsInRange (RunSession tess k rules) = AskInRange rules
+IsInRange (LearnRules tess cells out) = AreCells cells
+
+-- the task asks a teacher for the rules of the tessellation that this file holds, with so many
+-- cells
+abbrev pub TeachesFor : Task → List ℕ → ℕ → Type 0
+TeachesFor (TellType tess k walk) file cells = ⊥
+TeachesFor (CheckRules tess rules) file cells = ⊥
+TeachesFor (RunSession tess k (FromFile rules)) file cells = ⊥
+TeachesFor (RunSession tess k (FromTeacher most)) file cells = (tess ≡ file) × (most ≡ cells)
+TeachesFor (LearnRules tess most out) file cells = (tess ≡ file) × (most ≡ cells)
+
+-- the words ask for no task that asks a teacher
+abbrev pub AskNoTeacher : List (List ℕ) → Type 0
+AskNoTeacher words =
+    (task : Task) (file : List ℕ) (cells : ℕ) → Ask words task → TeachesFor task file cells → ⊥
 
 -- the words name this file to store rules in
 pub record IsOut (words : List (List ℕ)) (file : List ℕ) : Type 0 where
   pub tess : List ℕ
-  pub form : IsLearnForm words tess (Some file)
+  pub cells : ℕ
+  pub form : IsLearnForm words tess cells (Some file)

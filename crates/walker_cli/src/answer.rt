@@ -26,8 +26,7 @@ pub enum Answer {
     TypeTold(DartType),
     /// The rules are accepted: their numbers of states and of corner types.
     Accepted { states: u32, corners: u32 },
-    /// The words are in no form, or name no kind of the tessellation, or ask for rules that are made
-    /// for a tessellation that is not regular.
+    /// The words are in no form, or name no kind of the tessellation.
     Usage,
     /// A file is longer than its limit.
     FileTooLong(Role),
@@ -43,6 +42,11 @@ pub enum Answer {
     Broken(Broken),
     /// The tessellation {p,q} has finitely many tiles: it has no rules.
     Spherical { p: u8, q: u8 },
+    /// The tessellation, which is not regular, has exactly so many tiles, seen from a tile of some
+    /// kind: it has no rules.
+    Closed(u32),
+    /// The teacher gave up on the tessellation, which is not regular, with so many cells.
+    GaveUp(u32),
 }
 
 impl Answer {
@@ -58,6 +62,8 @@ impl Answer {
             Answer::RulesSyntax | Answer::RulesShape { .. } => Status::RulesText,
             Answer::Broken(_) => Status::NotAccepted,
             Answer::Spherical { .. } => Status::Spherical,
+            Answer::Closed(_) => Status::Closed,
+            Answer::GaveUp(_) => Status::GaveUp,
         }
     }
 
@@ -97,6 +103,8 @@ impl Answer {
                 "spherical",
                 &[u32::from(*p), u32::from(*q)],
             ),
+            Answer::Closed(n) => print_line(alloc, "closed", &[*n]),
+            Answer::GaveUp(cells) => print_line(alloc, "gave up", &[*cells]),
         }
     }
 }

@@ -1,38 +1,36 @@
-//! Rules that are made for the tessellation of a file, and stored.
-ghost use Rattle.std.specs.Prelude.{◌≡◌, ◌≤◌, ℕ, List, length, IsTrue, IfOk, IsErrOf, OnOk, Err, Some};
-ghost use Rattle.tile_model.specs.Tessellations.{TileKind};
-ghost use Rattle.tree_model.specs.Automata.{TreeAutomaton};
+//! Rules that a teacher answers for the tessellation of a file, and stored.
+ghost use Rattle.std.specs.Prelude.{◌≡◌, ℕ, List, length, IsTrue, IfOk, IsErrOf, OnOk, Err, Some};
 ghost use Rattle.rules_file.specs.Spelling.{rules_text};
 ghost use Rattle.way_io.specs.Counts.{Rose};
 ghost use Rattle.way_io.specs.Contents.{KeepsAll, KeepsOthers};
-ghost use Rattle.walker_cli.specs.Tasks.{LearnRules};
+ghost use Rattle.walker_cli.specs.Tasks.{LearnRules, AreCells};
 ghost use Rattle.walker_cli.specs.Forms.{name_of};
-ghost use Rattle.walker_cli.specs.Due.{Row, Makes};
-ghost use Rattle.walker_cli.specs.Loading.{IfPlan, FitsTask, SaysAs, SaysSome, TellsFault};
-ghost use Rattle.walker_cli.specs.Loading.{TellsStoreFault, StoresAs, KeepsByPlan, PlansStored};
+ghost use Rattle.walker_cli.specs.Loading.{IfPlan, IsPlanned, SaysAs, SaysSome, TellsFault};
+ghost use Rattle.walker_cli.specs.Loading.{TellsStoreFault, KeepsByPlan, PlansStored};
+ghost use Rattle.walker_cli.specs.Teaching.{IsTaughtBy};
 
 use crate::answer::{Answer, Role, Saying};
 use crate::decide::{Plan, accepted};
-use crate::load::{Refusal, load_tess, make_rules};
-use crate::words::Named;
+use crate::load::{Refusal, learn_rules, load_tess};
+use crate::options::{Learning, Named};
 use rules_file::print_rules;
+use state_learner::Teacher;
 use std::alloc::Global;
 use structure_check::Rules;
 use way_io::{Files, StoreFault};
 
-/// Makes rules for the tessellation of a file, stores them where a file is named for them, and
-/// tells how many states and corner types they have.
-pub fn learn<F: Files>(
+/// Has a teacher learn rules for the tessellation of a file, stores them where a file is named for
+/// them, and tells how many states and corner types they have.
+pub fn learn<F: Files, T: Teacher>(
     alloc: Global,
     files: &mut F,
+    teacher: &mut T,
     tess: &str,
-    out: Named,
+    options: Learning,
 ) -> Result<Plan, Refusal>
-    ensures due { IsTrue F.tells
-        → IfPlan result (FitsTask (F.contents files.old) (LearnRules tess.now (name_of out.entry))) }
-    ensures exact { IsTrue F.tells → (answer : Answer)
-        → Row (F.contents files.old) (LearnRules tess.now (name_of out.entry)) answer
-        → IfPlan result (SaysAs answer) }
+    requires { AreCells options.cells }
+    ensures planned { IsPlanned F.tells (F.contents files.old) (F.contents files.new)
+        (LearnRules tess.now options.entry.cells (name_of options.entry.out)) result }
     ensures said { IfOk result SaysSome }
     ensures failed { (r : Role) → result ≡ Err (Refusal.Said (Saying.FileFault r))
         → Rose (F.fetch_faults files.old) (F.fetch_faults files.new) }
@@ -40,26 +38,25 @@ pub fn learn<F: Files>(
     ensures store_failed { IfPlan result (λ plan. TellsStoreFault plan
         → Rose (F.store_faults files.old) (F.store_faults files.new)) }
     ensures others { IsTrue F.tells
-        → (file : List ℕ) → (StoresAs (LearnRules tess.now (name_of out.entry)) file → ⊥)
+        → (file : List ℕ) → (name_of options.entry.out ≡ Some file → ⊥)
         → F.contents files.new file ≡ F.contents files.old file }
     ensures kept { IsTrue F.tells
         → IfPlan result (KeepsByPlan (F.contents files.old) (F.contents files.new)) }
-    ensures stored { IsTrue F.tells → (file : List ℕ) (kinds : List TileKind) (a : TreeAutomaton)
-        → name_of out.entry ≡ Some file
-        → Makes (F.contents files.old) tess.now kinds a
-        → IfPlan result (PlansStored (F.contents files.new) file a) }
-    ensures stores { ((file : List ℕ) → StoresAs (LearnRules tess.now (name_of out.entry)) file → ⊥)
+    ensures stores { ((file : List ℕ) → name_of options.entry.out ≡ Some file → ⊥)
         → F.store_faults files.new ≡ F.store_faults files.old }
+    ensures taught { IfPlan result (IsTaughtBy F.tells (F.contents files.old)
+        (LearnRules tess.now options.entry.cells (name_of options.entry.out))
+        (T.give_ups teacher.old) (T.give_ups teacher.new) (T.last teacher.new)) }
 {
     let tess = match load_tess(alloc, files, tess) {
         Ok(tess) => tess,
         Err(refusal) => return Err(refusal),
     };
-    let rules = match make_rules(alloc, &tess) {
+    let rules = match learn_rules(alloc, teacher, &tess, options.cells) {
         Ok(rules) => rules,
         Err(refusal) => return Err(refusal),
     };
-    keep_rules(alloc, files, &rules, out)
+    keep_rules(alloc, files, &rules, options.out)
 }
 
 /// Stores rules where a file is named for them, and tells how many states and corner types they

@@ -9,6 +9,7 @@ ghost use Rattle.way_io.specs.Contents.{KeepsAll};
 ghost use Rattle.walker_cli.specs.Held.{Loaded, Refused, Holds, HoldsTooMany, IsTess, IsRules};
 ghost use Rattle.walker_cli.specs.Held.{broken_at, tess_limit, rules_limit, Outcome, IsMade};
 ghost use Rattle.walker_cli.specs.Held.{RulesOf};
+ghost use Rattle.walker_cli.specs.Tasks.{FromFile, AreCells, AskInRange};
 ghost use Rattle.tess_text.specs.Grammar.{IsFirstBadLine};
 ghost use Rattle.tess_text.specs.Spelling.{IsSpelling, IsRefused};
 ghost use Rattle.tile_model.specs.declared.fault.KindFault.{KindFault};
@@ -18,13 +19,14 @@ ghost use Rattle.rules_file.specs.Spelling.{IsTextOf, IsRulesFile};
 ghost use Rattle.rules_file.specs.Faults.{IsFirstFault};
 ghost use Rattle.tree_model.specs.Conditions.{IsAccepted};
 ghost use Rattle.structure_check.specs.Broken.{IsFirstBroken};
-ghost use Rattle.walker_cli.specs.Loading.{IsRefusedAs, IsOfOutside, RulesCome};
-ghost use Rattle.walker_cli.specs.Forms.{name_of};
+ghost use Rattle.walker_cli.specs.Loading.{IsRefusedAs, IsOfOutside, RulesCome, lesson_of};
+ghost use Rattle.walker_cli.specs.Teaching.{IsOfTeacher, IsOfNoTeacher, IsRefusedBy};
+ghost use Rattle.walker_cli.specs.Forms.{rules_from};
 
 use crate::answer::{Answer, Role, Saying};
-use crate::words::Named;
-use regular_maker::{RegFault, regular};
+use crate::options::Origin;
 use rules_file::{RulesFault, read_rules};
+use state_learner::{LearnFault, Teacher};
 use std::alloc::Global;
 use structure_check::{Rules, check};
 use tess_text::{TessFault, read_tess};
@@ -72,6 +74,7 @@ fn fetch<F: Files>(
     ensures later { F.fetch_faults files.old ≤ F.fetch_faults files.new }
     ensures same { IsTrue F.tells → KeepsAll (F.contents files.old) (F.contents files.new) }
     ensures stores { F.store_faults files.new ≡ F.store_faults files.old }
+    ensures plain { IfErr result IsOfNoTeacher }
 {
     match files.fetch(alloc, name, limit) {
         Ok(bytes) => Ok(bytes),
@@ -112,6 +115,7 @@ pub fn load_tess<F: Files>(
     ensures later { F.fetch_faults files.old ≤ F.fetch_faults files.new }
     ensures same { IsTrue F.tells → KeepsAll (F.contents files.old) (F.contents files.new) }
     ensures stores { F.store_faults files.new ≡ F.store_faults files.old }
+    ensures plain { IfErr result IsOfNoTeacher }
 {
     let bytes = match fetch(alloc, files, Role::Tess, name, TESS_LIMIT) {
         Ok(bytes) => bytes,
@@ -126,7 +130,7 @@ pub fn load_tess<F: Files>(
 }
 
 /// The rules that a file holds, checked over a tessellation.
-fn load_rules<F: Files>(
+pub fn load_rules<F: Files>(
     alloc: Global,
     files: &mut F,
     tess: Tessellation,
@@ -164,6 +168,7 @@ fn load_rules<F: Files>(
         → Rose (F.fetch_faults files.old) (F.fetch_faults files.new) }
     ensures same { IsTrue F.tells → KeepsAll (F.contents files.old) (F.contents files.new) }
     ensures stores { F.store_faults files.new ≡ F.store_faults files.old }
+    ensures plain { IfErr result IsOfNoTeacher }
 {
     let bytes = match fetch(alloc, files, Role::Rules, name, RULES_LIMIT) {
         Ok(bytes) => bytes,
@@ -183,55 +188,73 @@ fn load_rules<F: Files>(
     }
 }
 
-/// The rules that are made for a tessellation.
-pub fn make_rules(alloc: Global, tess: &Tessellation) -> Result<Rules, Refusal>
-    ensures ok { IfOk result (λ r. IsMade tess.now (Loaded r.automaton)) }
+/// The rules that a teacher answers for a tessellation, with so many cells.
+pub fn learn_rules<T: Teacher>(
+    alloc: Global,
+    teacher: &mut T,
+    tess: &Tessellation,
+    cells: u32,
+) -> Result<Rules, Refusal>
+    requires { AreCells cells }
+    ensures ok { IfOk result
+        (λ r. IsMade (lesson_of result) tess.now cells (Loaded r.automaton)) }
     ensures kinds { IfOk result (λ r. r.kinds ≡ tess.now) }
     ensures accepted { IfOk result (λ r. IsAccepted r.kinds r.automaton) }
     ensures role { (r : Role) → result ≡ Err (Refusal.Said (Saying.FileFault r)) → ⊥ }
     ensures no_store { result ≡ Err (Refusal.Said Saying.StoreFault) → ⊥ }
     ensures refused { (answer : Answer) → result ≡ Err (Refusal.Said (Saying.Due answer))
-        → IsMade tess.now (Refused answer) }
-    ensures comes { (outcome : Outcome TreeAutomaton) → IsMade tess.now outcome
-        → RulesCome outcome result }
+        → IsMade (lesson_of result) tess.now cells (Refused answer) }
+    ensures comes { (outcome : Outcome TreeAutomaton)
+        → IsMade (lesson_of result) tess.now cells outcome → RulesCome outcome result }
+    ensures taught { IfErr result (IsOfTeacher tess.now cells
+        (T.give_ups teacher.old) (T.give_ups teacher.new) (T.last teacher.new)) }
 {
-    match regular(alloc, tess) {
+    match teacher.teach(alloc, tess, cells) {
         Ok(rules) => Ok(rules),
-        Err(RegFault::NotRegular) => Err(Refusal::Said(Saying::Due(Answer::Usage))),
-        Err(RegFault::Spherical { p, q }) => {
+        Err(LearnFault::Spherical { p, q }) => {
             Err(Refusal::Said(Saying::Due(Answer::Spherical { p, q })))
         }
-        Err(RegFault::Memory) => Err(Refusal::Memory),
+        Err(LearnFault::Closed(n)) => Err(Refusal::Said(Saying::Due(Answer::Closed(n)))),
+        Err(LearnFault::GaveUp(_)) => Err(Refusal::Said(Saying::Due(Answer::GaveUp(cells)))),
+        Err(LearnFault::Memory) => Err(Refusal::Memory),
     }
 }
 
-/// The rules of a file over a tessellation, or those that are made for it where no file is named.
-pub fn find_rules<F: Files>(
+/// The rules of a file over a tessellation, or those that a teacher answers for it.
+pub fn find_rules<F: Files, T: Teacher>(
     alloc: Global,
     files: &mut F,
+    teacher: &mut T,
     tess: Tessellation,
-    rules: Named,
+    rules: Origin,
 ) -> Result<Rules, Refusal>
+    requires { AskInRange (rules_from rules) }
     ensures ok { IsTrue F.tells → IfOk result
-        (λ r. RulesOf (F.contents files.old) tess (name_of rules.entry) (Loaded r.automaton)) }
+        (λ r. RulesOf (F.contents files.old) (lesson_of result) tess (rules_from rules.entry)
+        (Loaded r.automaton)) }
     ensures kinds { IfOk result (λ r. r.kinds ≡ tess) }
     ensures accepted { IfOk result (λ r. IsAccepted r.kinds r.automaton) }
     ensures role { (r : Role) → result ≡ Err (Refusal.Said (Saying.FileFault r))
-        → (r ≡ Role.Rules) × (file : List ℕ) × (name_of rules.entry ≡ Some file) }
+        → (r ≡ Role.Rules) × (file : List ℕ) × (rules_from rules.entry ≡ FromFile file) }
     ensures no_store { result ≡ Err (Refusal.Said Saying.StoreFault) → ⊥ }
     ensures refused { IsTrue F.tells
         → (answer : Answer) → result ≡ Err (Refusal.Said (Saying.Due answer))
-        → RulesOf (F.contents files.old) tess (name_of rules.entry) (Refused answer) }
+        → RulesOf (F.contents files.old) (lesson_of result) tess (rules_from rules.entry)
+        (Refused answer) }
     ensures comes { IsTrue F.tells → (outcome : Outcome TreeAutomaton)
-        → RulesOf (F.contents files.old) tess (name_of rules.entry) outcome
+        → RulesOf (F.contents files.old) (lesson_of result) tess (rules_from rules.entry) outcome
         → RulesCome outcome result }
     ensures failed { (r : Role) → result ≡ Err (Refusal.Said (Saying.FileFault r))
         → Rose (F.fetch_faults files.old) (F.fetch_faults files.new) }
     ensures same { IsTrue F.tells → KeepsAll (F.contents files.old) (F.contents files.new) }
     ensures stores { F.store_faults files.new ≡ F.store_faults files.old }
+    ensures taught { IfErr result (IsRefusedBy (rules_from rules.entry) tess
+        (T.give_ups teacher.old) (T.give_ups teacher.new) (T.last teacher.new)) }
+    ensures untaught { (file : List ℕ) → rules_from rules.entry ≡ FromFile file
+        → teacher.new ≡ teacher.old }
 {
     match rules {
-        Named::File(name) => load_rules(alloc, files, tess, name),
-        Named::Nothing => make_rules(alloc, &tess),
+        Origin::File(name) => load_rules(alloc, files, tess, name),
+        Origin::Teacher(cells) => learn_rules(alloc, teacher, &tess, cells),
     }
 }

@@ -4,16 +4,22 @@
 
 mod answer;
 mod decide;
+#[cfg(test)]
+mod hostile;
 mod learn;
 mod load;
+mod options;
 mod run;
 mod saying;
 mod serving;
 mod status;
 #[cfg(test)]
 mod tests;
+#[cfg(test)]
+mod uniform;
 mod words;
 
+use state_learner::Learner;
 use std::alloc::Global;
 use std::process::ExitCode;
 use std::{env, io};
@@ -27,12 +33,14 @@ fn main(rt: HostRuntime) -> ExitCode {
     let mut files = HostFiles::new(&rt);
     let mut input = StdSource::new(rt.reader());
     let mut out = StdSink::new(io::writer(&rt));
+    let mut teacher = Learner::new(rt.alloc());
     let status = run::run(
         rt.alloc(),
         words.as_slice(),
         &mut files,
         &mut input,
         &mut out,
+        &mut teacher,
     );
     ExitCode::from(status.code())
 }

@@ -4,6 +4,7 @@ ghost use Rattle.line_server.specs.Answering.{over_walks};
 ghost use Rattle.way_io.specs.Counts.{Rose};
 ghost use Rattle.way_io.specs.Pieces.{AppendsPrefix};
 ghost use Rattle.line_server.specs.Endings.{GivesInOrder, TakesMore};
+ghost use Rattle.walker_cli.specs.StatusLines.{IsRefusal};
 ghost use Rattle.walker_cli.specs.Serving.{too_long_line};
 ghost use Rattle.walker_cli.specs.Ending.{EndsStream};
 
@@ -27,7 +28,7 @@ pub fn serve_walkers<I: Source, O: Sink>(
     ensures ends { EndsStream I.tells O.tells
         (over_walks rules.now.kinds rules.now.automaton kind)
         (I.left input.old) (I.left input.new) (O.taken out.old) (O.taken out.new) result }
-    ensures file_fault { result ≡ Status.FileFault → ⊥ }
+    ensures no_refusal { IsRefusal result → ⊥ }
     ensures read_cause { result ≡ Status.ReadFault
         → Rose (I.faults input.old) (I.faults input.new) }
     ensures write_cause { result ≡ Status.WriteFault → Rose (O.faults out.old) (O.faults out.new) }

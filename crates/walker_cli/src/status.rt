@@ -7,8 +7,7 @@ ghost use Rattle.walker_cli.specs.StatusLines.{code_of};
 pub enum Status {
     /// What the words ask for was done and written.
     Done,
-    /// The words are in no form, or name a kind that is not there, or ask for rules of a tessellation
-    /// that is not regular.
+    /// The words are in no form, or name a kind that is not there.
     Usage,
     /// A file could not be read.
     FileFault,
@@ -20,8 +19,12 @@ pub enum Status {
     RulesText,
     /// The rules break a condition.
     NotAccepted,
-    /// The tessellation has finitely many tiles, and no rules are made for it.
+    /// The tessellation is regular and has finitely many tiles, and no rules are made for it.
     Spherical,
+    /// The tessellation is not regular and has finitely many tiles, and no rules are made for it.
+    Closed,
+    /// The teacher gave up: it made as many cells as it might, and learnt no rules.
+    GaveUp,
     /// There was no memory.
     Memory,
     /// Reading the input failed.
@@ -48,6 +51,8 @@ impl Status {
             Status::RulesText => 6,
             Status::NotAccepted => 7,
             Status::Spherical => 8,
+            Status::Closed => 9,
+            Status::GaveUp => 10,
             Status::Memory => 11,
             Status::ReadFault => 12,
             Status::WriteFault => 13,

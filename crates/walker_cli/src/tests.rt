@@ -7,6 +7,7 @@ use sample_tilings::{
     HEPTAGONS_AND_HEXAGONS_RULES, HEPTAGONS_AND_HEXAGONS_TESS, HEPTAGONS_RULES, HEPTAGONS_TESS,
     PENTAGONS_RULES, PENTAGONS_TESS,
 };
+use state_learner::Learner;
 use std::alloc::{AllocError, Global};
 use std::io;
 use std::test::Fail;
@@ -17,6 +18,16 @@ const DODECAHEDRON: &str = "tess 1\nkind 0 5 1\njoin 0 0 0 0\ncorner 0 0 3\n";
 
 // Squares, four round each corner.
 const SQUARES: &str = "tess 1\nkind 0 4 1\njoin 0 0 0 0\ncorner 0 0 4\n";
+
+// Triangles and squares, three round each corner: the prism.
+const PRISM: &str = "tess 1\nkind 0 3 1\nkind 1 4 2\njoin 0 0 1 0\njoin 1 1 1 1\n\
+    corner 0 0 3\ncorner 1 0 3\ncorner 1 1 3\n";
+
+// Triangles and two kinds of squares, in which a ring of squares must close after three and after
+// four.
+const COLLAPSE: &str = "tess 1\nkind 0 3 1\nkind 1 4 4\nkind 2 4 1\n\
+    join 0 0 1 0\njoin 1 1 1 3\njoin 1 2 2 0\n\
+    corner 0 0 3\ncorner 1 0 3\ncorner 1 1 3\ncorner 1 2 3\ncorner 1 3 3\ncorner 2 0 3\n";
 
 // A text with one place changed.
 fn changed(alloc: Global, text: &str, old: &str, new: &str) -> Result<Vec<u8>, AllocError> {
@@ -68,7 +79,8 @@ fn ends<I: Source>(
         list.push(String::from_str(alloc, word)?)?;
     }
     let mut out = MemSink::new(alloc, 200, 3, &[])?;
-    let status = run(alloc, list.as_slice(), files, input, &mut out);
+    let mut teacher = Learner::new(alloc);
+    let status = run(alloc, list.as_slice(), files, input, &mut out, &mut teacher);
     Ok(out.taken() == output.as_bytes() && status.code() == code)
 }
 
@@ -108,12 +120,10 @@ fn words_lead_to_lines(rt: HostRuntime) -> Result<(), Fail> {
         ("run p54.tess 0x --rules p54.json", "usage\n", 2),
         ("run p54.tess 0 --rules p54.json --cells 5", "usage\n", 2),
         ("run p53.tess 0 --cells 5", "spherical 5 3\n", 8),
-        ("run hr.tess 0", "usage\n", 2),
         ("run p54.tess 1", "usage\n", 2),
         ("learn p53.tess", "spherical 5 3\n", 8),
         ("learn p54.tess --cells 1", "accepted 3 1\n", 0),
         ("learn p73.tess", "accepted 3 2\n", 0),
-        ("learn hr.tess", "usage\n", 2),
         ("learn p54.tess --cells 0", "usage\n", 2),
         ("learn p54.tess --cells 1000001", "usage\n", 2),
         ("learn p54.tess --cells 1 --cells 1", "usage\n", 2),
@@ -334,6 +344,104 @@ fn answers_commands_without_a_rules_file(rt: HostRuntime) -> Result<(), Fail> {
         assert!(rt;
             ends(alloc, &mut files, words, &mut input, replies, 0)?,
             "{words}"
+        );
+    }
+    Ok(())
+}
+
+// Whether the words lead to this line and this exit status, and the file `x` keeps what it holds.
+fn refuses(alloc: Global, words: &str, x: &str, line: &str, code: u8) -> Result<bool, AllocError> {
+    let mut files = files(alloc, x.as_bytes())?;
+    let mut input = MemSource::new(alloc, b"new 0\n", 10, &[])?;
+    let refused = ends(alloc, &mut files, words, &mut input, line, code)?;
+    Ok(refused && files.content("x") == Some(x.as_bytes()))
+}
+
+#[test]
+fn tells_how_many_tiles_there_are(rt: HostRuntime) -> Result<(), Fail> {
+    let alloc = rt.alloc();
+    for (words, x, line) in [
+        ("learn x --out x", PRISM, "closed 5\n"),
+        ("run x 1", PRISM, "closed 5\n"),
+        ("learn x", COLLAPSE, "closed 3\n"),
+    ] {
+        assert!(rt; refuses(alloc, words, x, line, 9)?, "{words}");
+    }
+    assert!(rt; refuses(alloc, "run x 2", PRISM, "usage\n", 2)?);
+    Ok(())
+}
+
+#[test]
+fn tells_that_the_learner_gave_up(rt: HostRuntime) -> Result<(), Fail> {
+    let alloc = rt.alloc();
+    for (words, line) in [
+        ("learn hr.tess --cells 5", "gave up 5\n"),
+        ("learn hr.tess --out x --cells 1", "gave up 1\n"),
+        ("run hr.tess 1 --cells 5", "gave up 5\n"),
+    ] {
+        assert!(rt; refuses(alloc, words, "", line, 10)?, "{words}");
+    }
+    Ok(())
+}
+
+#[test]
+fn learns_from_the_tessellation_alone(rt: HostRuntime) -> Result<(), Fail> {
+    let alloc = rt.alloc();
+    let mut files = files(alloc, b"")?;
+    let commands = b"count 0\ncount 1\ncount 2\n";
+    let replies = "count 1\ncount 7\ncount 14\n";
+    let mut input = MemSource::new(alloc, commands, 7, &[])?;
+    assert!(rt; ends(alloc, &mut files, "run hr.tess 0", &mut input, replies, 0)?);
+    let mut empty = MemSource::new(alloc, b"", 7, &[])?;
+    let words = "learn hr.tess --out x";
+    assert!(rt; ends(alloc, &mut files, words, &mut empty, "accepted 8 2\n", 0)?);
+    let again = "run hr.tess 0 --rules x";
+    let mut input = MemSource::new(alloc, commands, 7, &[])?;
+    assert!(rt; ends(alloc, &mut files, again, &mut input, replies, 0)?);
+    Ok(())
+}
+
+#[test]
+fn answers_of_texts_and_rings(rt: HostRuntime) -> Result<(), Fail> {
+    let alloc = rt.alloc();
+    for (words, commands, replies) in [
+        (
+            SESSION,
+            "new 0\nnew 1\ngo 0 LX\nput 0 red\ngo 1 XRXRX\n\
+             at 1\nsame 0 1\nget 1\nput 1 blue\nget 0\n",
+            "ok\nok\nok\nok\nok\nat 1 1 0\nyes\ntext red\nok\ntext blue\n",
+        ),
+        (
+            SESSION,
+            "new 0\nget 0\nput 0\nput 0  x\nget 0\nput 0 \nget 0\n",
+            "ok\nnone\nbad\nok\ntext  x\nok\ntext \n",
+        ),
+        (
+            "run p73.tess 0 --rules p73.json",
+            "count 0\ncount 1\ncount 2\ncount 3\nring 1\nring 0\n",
+            "count 1\ncount 7\ncount 21\ncount 56\ntiles 7\n0\n1\n2\n3\n4\n5\n6\ntiles 1\n-\n",
+        ),
+        (
+            "run p73.tess 0 --rules p73.json",
+            "ring 20\ncount 4001\ncount 92\ncount 2\nget 5\nput 5 x\n",
+            "too many 716339085\nfar\ntoo big 92\ncount 21\nno walker\nno walker\n",
+        ),
+        (
+            "run hr.tess 0 --rules hr.json",
+            "count 0\ncount 1\ncount 2\n",
+            "count 1\ncount 7\ncount 14\n",
+        ),
+        (
+            "run p44.tess 0",
+            "count 1\ncount 2\ncount 4000\nring 4001\n",
+            "count 4\ncount 8\ncount 16000\nfar\n",
+        ),
+    ] {
+        let mut files = files(alloc, b"")?;
+        let mut input = MemSource::new(alloc, commands.as_bytes(), 7, &[])?;
+        assert!(rt;
+            ends(alloc, &mut files, words, &mut input, replies, 0)?,
+            "{commands}"
         );
     }
     Ok(())

@@ -1,4 +1,5 @@
-use Rattle.std.proofs.Common.{refl}
+use Rattle.std.proofs.Common.{refl, ap, ◌∙◌, ◌++◌}
+use Rattle.std.proofs.lemmas.List.{append_assoc}
 use Rattle.walker_cli.specs.Ending.{out_of_memory}
 use Rattle.walker_cli.proofs.Streams.{rose_on, nothing_begun, done_ends, unread_ends, unwritten_ends, memory_ends, over_ends}
 use Rattle.walker_cli.proofs.serving.serve_walkers.Goals as goal
@@ -24,3 +25,15 @@ returns-in-WriteFault-clause-ends g c = unwritten_ends _ _ c.in-Ok.session c.ser
 
 pub returns-clause-ends : goal.returns-clause-ends
 returns-clause-ends g c = memory_ends _ _ c.in-Ok.session c.serve.new.session c.args.rules.now c.args.kind _ _ _ _ c.in-Ok.ensures.rules c.in-Ok.ensures.kind c.in-Ok.ensures.stands_over_walks c.serve.ensures.begun
+
+pub returns-in-InputTooLong-clause-kept : goal.returns-in-InputTooLong-clause-kept
+returns-in-InputTooLong-clause-kept g c = λ tells.
+    let served = c.serve.ensures.kept tells in
+    let line = (c.refuse_input.ensures.prefix tells).sent in
+    record {
+      more = served.more ++ line.sent;
+      all =
+          line.appended
+          ∙ ap (λ l. l ++ line.sent) served.all
+          ∙ append_assoc (g.O.Sink.taken c.args.out.now) served.more line.sent;
+    }

@@ -9,4 +9,4 @@ pub returns-clause-some : goal.returns-clause-some
 returns-clause-some c =
     let words = two_front string_bytes c.args.words.now c.form-item.result c.tess-item.result c.in-len2-up.len_at_least c.form-item.is c.tess-item.is in
     let form : string_bytes c.form-item.result ≡ codes "learn" = search rules in
-    learn_form _ c.as_str-2.result.now _ (name_of c.in_ok-out.out) (cc (words, form, c.as_str-2.ensures.value)) c.in_ok-out.ensures.some
+    learn_form _ c.as_str-2.result.now _ c.in_ok-options.options.cells (name_of c.in_ok-options.options.out) (cc (words, form, c.as_str-2.ensures.value)) c.in_ok-options.ensures.some

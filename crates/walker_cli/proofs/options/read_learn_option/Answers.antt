@@ -1,6 +1,6 @@
 use Rattle.std.proofs.Common.{◌≡◌, codes, rules}
-use Rattle.walker_cli.proofs.Options.{learn_of_out}
-use Rattle.walker_cli.proofs.words.read_learn_option.Goals as goal
+use Rattle.walker_cli.proofs.Choices.{learn_of_out}
+use Rattle.walker_cli.proofs.options.read_learn_option.Goals as goal
 
 pub returns-then-eq-clause-some : goal.returns-then-eq-clause-some
 returns-then-eq-clause-some c =

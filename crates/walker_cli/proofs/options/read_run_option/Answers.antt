@@ -1,6 +1,6 @@
 use Rattle.std.proofs.Common.{◌≡◌, codes, rules}
-use Rattle.walker_cli.proofs.Options.{run_of_rules}
-use Rattle.walker_cli.proofs.words.read_run_option.Goals as goal
+use Rattle.walker_cli.proofs.Choices.{run_of_rules}
+use Rattle.walker_cli.proofs.options.read_run_option.Goals as goal
 
 pub returns-then-eq-clause-some : goal.returns-then-eq-clause-some
 returns-then-eq-clause-some c =
