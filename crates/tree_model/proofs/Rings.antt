@@ -85,7 +85,7 @@ precede_both (i ∷ m) (j ∷ n) h g =
 before_both : (m n : List ℕ) → IsBefore m n → IsBefore n m → ⊥
 before_both m n b c = precede_both m n (precedes b) (precedes c)
 
-before_itself : (m : List ℕ) → IsBefore m m → ⊥
+pub before_itself : (m : List ℕ) → IsBefore m m → ⊥
 before_itself m b = before_both m m b b
 
 -- two lists in order with the same members are one list
