@@ -1,9 +1,10 @@
 //! From a base automaton to rules: corner types are added, and the checker decides.
-ghost use Rattle.std.specs.Prelude.{IfOk, IfSome};
+ghost use Rattle.std.specs.Prelude.{◌≡◌, None, IfOk, IfSome};
 ghost use Rattle.cone_learner.specs.Candidates.{AreAccepted};
 
-use crate::limits::{HORIZONS, LOOKS, MOST_CORNERS};
-use cone_types::ConeType;
+use crate::limits::{FEW_TYPES, HORIZONS, LOOKS, MOST_CORNERS};
+use crate::refining::Open;
+use cone_types::{ConeType, coarsest};
 use corner_congruence::{corner_types, merged};
 use least_ranks::least_ranks;
 use rules_data::Automaton;
@@ -12,12 +13,37 @@ use structure_check::{Rules, first_broken};
 use tile_kinds::Tessellation;
 use tree_looks::{Split, TreeDart, split_by_looks};
 
-/// What a base automaton came to: rules that were accepted, or the ways of looks at corners that do
-/// not close, which may be none.
+/// What a base automaton came to: rules that were accepted, or corners that do not close, which may
+/// be none.
 #[derive(Drop)]
 pub(crate) struct Candidate {
     pub rules: Option<Rules>,
-    pub open: Vec<Vec<TreeDart>>,
+    pub open: Open,
+}
+
+impl Candidate {
+    /// Rules that were accepted, if any, and no open corner.
+    fn of(alloc: Global, rules: Option<Rules>) -> Candidate
+        ensures { result.rules ≡ rules }
+    {
+        Candidate {
+            rules,
+            open: Open {
+                corners: Vec::new(alloc),
+                horizon: 0,
+            },
+        }
+    }
+
+    /// No rules, but open corners.
+    fn open(corners: Vec<TreeDart>, horizon: u32) -> Candidate
+        ensures { result.rules ≡ None }
+    {
+        Candidate {
+            rules: None,
+            open: Open { corners, horizon },
+        }
+    }
 }
 
 /// Gives the corner types their least ranks. Answers false where there are none.
@@ -58,8 +84,23 @@ fn accepted(
     Ok(Some(Rules::of_accepted(tess, automaton)))
 }
 
-/// Rules that a base automaton makes, as it is or with its cone types split by looks; where a
-/// corner does not close, the ways of such looks.
+/// Corners that do not close, of a base automaton with so many cone types that they are looked at
+/// before these are merged.
+fn first_open(
+    alloc: Global,
+    tess: &Tessellation,
+    types: &[ConeType],
+) -> Result<Vec<TreeDart>, AllocError> {
+    if types.len() > FEW_TYPES {
+        if let Split::Open(corners) = split_by_looks(alloc, tess, types, 0, LOOKS)? {
+            return Ok(corners);
+        }
+    }
+    Ok(Vec::new(alloc))
+}
+
+/// Rules that a base automaton makes, with its cone types merged and then as they are or split by
+/// looks; where corners do not close, those corners.
 pub(crate) fn try_types(
     alloc: Global,
     tess: &Tessellation,
@@ -67,24 +108,25 @@ pub(crate) fn try_types(
 ) -> Result<Candidate, AllocError>
     ensures { IfOk result (λ c. IfSome c.rules (AreAccepted tess.now)) }
 {
-    let none = Vec::new(alloc);
-    let rules = accepted(alloc, tess, types)?;
+    let corners = first_open(alloc, tess, types)?;
+    if !corners.is_empty() {
+        return Ok(Candidate::open(corners, 0));
+    }
+    let types = coarsest(alloc, types, tess.kinds() as usize)?;
+    let rules = accepted(alloc, tess, &types)?;
     if rules.is_some() {
-        return Ok(Candidate { rules, open: none });
+        return Ok(Candidate::of(alloc, rules));
     }
     for horizon in HORIZONS {
-        match split_by_looks(alloc, tess, types, horizon, LOOKS)? {
-            Split::Open(open) => return Ok(Candidate { rules: None, open }),
+        match split_by_looks(alloc, tess, &types, horizon, LOOKS)? {
+            Split::Open(corners) => return Ok(Candidate::open(corners, horizon)),
             Split::Types(split) => {
                 let rules = accepted(alloc, tess, &split)?;
                 if rules.is_some() {
-                    return Ok(Candidate { rules, open: none });
+                    return Ok(Candidate::of(alloc, rules));
                 }
             }
         }
     }
-    Ok(Candidate {
-        rules: None,
-        open: none,
-    })
+    Ok(Candidate::of(alloc, None))
 }

@@ -2,13 +2,24 @@
 //! needed for an answer to be right.
 use tree_looks::Limits;
 
-/// The most rounds of a level: base automata that are read off the cells, each after the refinement
-/// of the one before. Files that were learnt took up to 420.
+/// The most rounds of a level: base automata that are tried, each after the refinement of the one
+/// before. Files that were learnt took up to 200.
 pub(crate) const MOST_ROUNDS: u32 = 500;
 
 /// The most times that a base automaton is read off the cells anew, since cells were made or joined
 /// while it was read.
 pub(crate) const MOST_PASSES: u32 = 1_000;
+
+/// The most cone types with which the second level is tried: there each takes in many cells.
+pub(crate) const MOST_RING_TYPES: usize = 1_000;
+
+/// The cone types up to which they are merged before corners are looked at. With more, merging takes
+/// longer than it saves.
+pub(crate) const FEW_TYPES: usize = 300;
+
+/// So many cone types stand for one look at an open corner: where fewer corners are open than that,
+/// to read the base automaton again takes longer than to follow them.
+pub(crate) const TYPES_A_LOOK: usize = 100;
 
 /// The most corner types that are ranked, as many as rules may have.
 pub(crate) const MOST_CORNERS: usize = 20_000;

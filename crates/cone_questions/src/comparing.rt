@@ -8,6 +8,7 @@ use crate::cones::Cones;
 use crate::fault::AskFault;
 use crate::questions::Questions;
 use crate::sides::{Side, side_at};
+use crate::steps::across;
 use cell_patches::{PatchDart, Patches};
 use cone_types::Rule;
 use indexmap::{IndexMap, IndexSet};
@@ -19,20 +20,31 @@ use tree_looks::TreeDart;
 pub enum Found {
     /// The cells do as the base automaton says.
     Nothing,
-    /// A new experiment splits a cone type.
-    New,
-    /// The cone type that would be split is split already.
+    /// A new experiment splits this cone type.
+    New(u32),
+    /// The cone type that would be split is split already, or new.
     Known,
+    /// The child across this side of the cell of this cone type is of another cone type by now.
+    Moved(u32, u8),
 }
 
-/// The comparisons of one base automaton with the cells: the numbers of its cone types that were
-/// split, and the cells that were come to, by the numbers of their roots and the sides of their
-/// names.
+/// Comparisons of base automata with the cells. While one sweep lasts, each cone type that there
+/// was at its beginning is split at most once. The cells that were come to are kept by the numbers
+/// of their roots and the sides of their names, each with the node of the discrimination tree that
+/// it came to.
 #[derive(Drop)]
 pub struct Comparison {
     alloc: Global,
     split: IndexSet<u32>,
-    cells: IndexMap<Vec<u8>, PatchDart>,
+    types: usize,
+    cells: IndexMap<Vec<u8>, Come>,
+}
+
+/// A cell by its parent side, and the node that it came to.
+#[derive(Clone, Copy, Debug)]
+pub(crate) struct Come {
+    pub(crate) cell: PatchDart,
+    pub(crate) node: u32,
 }
 
 /// A cell that answers an experiment otherwise than its cone type: how many sides its name has, the
@@ -70,16 +82,6 @@ fn side_of_rule(rule: Rule) -> Side {
         Rule::Left => Side::Left,
         Rule::Right => Side::Right,
     }
-}
-
-/// The index of the first number that differs in two lists; 0 where none does.
-fn first_difference(a: &[u32], b: &[u32]) -> usize {
-    for (i, (x, y)) in a.iter().zip(b).enumerate() {
-        if x != y {
-            return i;
-        }
-    }
-    0
 }
 
 impl Way {
@@ -127,8 +129,17 @@ impl Comparison {
         Comparison {
             alloc,
             split: IndexSet::new(alloc),
+            types: 0,
             cells: IndexMap::new(alloc),
         }
+    }
+
+    /// Begins a sweep: each cone type that there is by now may be split once.
+    pub fn begin_sweep(&mut self, cones: &Cones)
+        ensures { split_count self.new ≡ 0 }
+    {
+        self.split.clear();
+        self.types = cones.types.len();
     }
 
     /// The cell at the end of the name of a dart, where a comparison came to it.
@@ -141,11 +152,15 @@ impl Comparison {
             ≡ cell_at self.now (dart.now.root ∷ dart.now.name.items)) }
     {
         let word = word_of(self.alloc, dart)?;
-        Ok(self.cells.get(word.as_slice()).copied())
+        match self.cells.get(word.as_slice()) {
+            Some(come) => Ok(Some(come.cell)),
+            None => Ok(None),
+        }
     }
 
     /// Follows the name of a dart through the cells, and looks at the side there. At the first cell
-    /// that does not do as the base automaton says, a cone type is split, each once.
+    /// that does not do as the base automaton says, a cone type is split, or its cell was read too
+    /// early.
     ///
     /// # Errors
     ///
@@ -192,14 +207,20 @@ impl Comparison {
         ensures splits { split_count self.new ≡ split_count self.old }
         ensures most { patches.new.most ≡ patches.old.most }
     {
-        let Some(Rule::Child(child_type)) = cones.rule(way.last_type(), side) else {
+        let Some(Rule::Child(child_type)) = cones.rule(way.last_type() as usize, side) else {
             return Ok(Followed::Lost);
         };
         way.types.push(child_type)?;
         let beginning = way.beginning(length.saturating_add(1));
-        if let Some(cell) = self.cells.get(beginning) {
-            way.cell = patches.named(*cell);
-            return Ok(Followed::Whole);
+        if let Some(come) = self.cells.get(beginning) {
+            let come = *come;
+            if come.node == cones.node(child_type) {
+                way.cell = patches.named(come.cell);
+                return Ok(Followed::Whole);
+            }
+            let cell = patches.named(come.cell);
+            let node = questions.sift_on(patches, cell, come.node)?;
+            return self.come_to(questions, patches, cones, way, length, Come { cell, node });
         }
         match go_through(patches, way.cell, side)? {
             Step::Open => Ok(Followed::Lost),
@@ -208,11 +229,15 @@ impl Comparison {
                 experiment: Experiment::here(questions.alloc, Question::Side(side)),
                 wanted: questions.answers.number(Answer::Side(Side::Child))?,
             })),
-            Step::Child(child) => self.come_to(questions, patches, cones, way, length, child),
+            Step::Child(cell) => {
+                let node = questions.sift(patches, cell)?;
+                self.come_to(questions, patches, cones, way, length, Come { cell, node })
+            }
         }
     }
 
-    /// Asks a child at the end of a way, whose name has one side more than so many.
+    /// Compares a child at the end of a way, whose name has one side more than so many, with its
+    /// cone type. One that was split in this sweep says nothing.
     fn come_to(
         &mut self,
         questions: &mut Questions,
@@ -220,26 +245,30 @@ impl Comparison {
         cones: &Cones,
         way: &mut Way,
         length: usize,
-        child: PatchDart,
+        child: Come,
     ) -> Result<Followed, AskFault>
         ensures splits { split_count self.new ≡ split_count self.old }
         ensures most { patches.new.most ≡ patches.old.most }
     {
-        let given = questions.sift(patches, child)?;
-        let name = cones.name(way.last_type());
         let length = length.saturating_add(1);
-        if given.as_slice() != name {
-            let at = first_difference(given.as_slice(), name);
-            return Ok(Followed::Differs(Difference {
-                length,
-                experiment: questions.experiment_behind(given.as_slice(), at)?,
-                wanted: name.get(at).copied().unwrap_or(u32::MAX),
-            }));
-        }
-        way.cell = patches.named(child);
+        way.cell = patches.named(child.cell);
+        let cell = way.cell;
+        let come = Come { cell, ..child };
         let beginning = Vec::from_slice(questions.alloc, way.beginning(length))?;
-        self.cells.insert(beginning, way.cell)?;
-        Ok(Followed::Whole)
+        self.cells.insert(beginning, come)?;
+        let node = cones.node(way.last_type());
+        if come.node == node {
+            return Ok(Followed::Whole);
+        }
+        let parting = questions.parting(come.node, node);
+        if parting.node == node {
+            return Ok(Followed::Lost);
+        }
+        Ok(Followed::Differs(Difference {
+            length,
+            experiment: questions.experiment_at(parting.node)?,
+            wanted: parting.answer,
+        }))
     }
 
     /// Looks at the side of a dart, from the cell at the end of its name.
@@ -253,8 +282,8 @@ impl Comparison {
     ) -> Result<Followed, AskFault>
         ensures most { patches.new.most ≡ patches.old.most }
     {
-        let cone_type = way.last_type();
-        if (cone_type as usize) < cones.kinds {
+        let cone_type = way.last_type() as usize;
+        if cone_type < cones.kinds {
             return Ok(Followed::Lost);
         }
         let Some(rule) = cones.rule(cone_type, dart.side) else {
@@ -293,34 +322,44 @@ impl Comparison {
             let asked = difference.experiment.behind(questions.alloc, path)?;
             let cell = patches.named(cell);
             if questions.answers.ask(patches, cell, &asked)? != difference.wanted {
-                return self.split_off(questions, cones, way, from.saturating_add(1), difference);
+                return self.split_behind(questions, patches, cones, way, from, difference);
             }
         }
         Ok(Found::Nothing)
     }
 
-    /// Splits the cone type behind so many sides of a way, unless it is split already.
-    fn split_off(
+    /// Splits the cone type of the child of the cone type behind so many sides of a way, if it is
+    /// one of those that may be split, and the child is of it still.
+    fn split_behind(
         &mut self,
         questions: &mut Questions,
+        patches: &mut Patches,
         cones: &Cones,
         way: &Way,
         from: usize,
         difference: &Difference,
     ) -> Result<Found, AskFault>
-        ensures { IfOk result (λ found. split_count self.new
+        ensures splits { IfOk result (λ found. split_count self.new
             ≡ split_count self.old + splits found) }
+        ensures most { patches.new.most ≡ patches.old.most }
     {
-        let Some(cone_type) = way.types.get(from).copied() else {
+        let behind = from.saturating_add(1);
+        let (Some(parent), Some(child)) = (way.types.get(from), way.types.get(behind)) else {
             return Ok(Found::Nothing);
         };
-        let (_, is_new) = self.split.insert_full(cone_type)?;
-        if !is_new {
+        if *child as usize >= self.types || self.split.contains(child) {
             return Ok(Found::Known);
         }
-        let path = way.sides(from, difference.length);
+        let side = way.word.get(behind).copied().unwrap_or(0);
+        if let Some(cell) = cones.cell(*parent).and_then(|cell| across(patches, cell, side)) {
+            if questions.sift(patches, cell)? != cones.node(*child) {
+                return Ok(Found::Moved(*parent, side));
+            }
+        }
+        let path = way.sides(behind, difference.length);
         let experiment = difference.experiment.behind(questions.alloc, path)?;
-        questions.add(cones.name(cone_type), experiment)?;
-        Ok(Found::New)
+        questions.add(cones.node(*child), experiment)?;
+        self.split.insert(*child)?;
+        Ok(Found::New(*child))
     }
 }

@@ -8,17 +8,22 @@ use crate::sides::{Side, all_sides};
 use crate::steps::across;
 use cell_patches::{PatchDart, Patches};
 use cone_types::{ConeType, Rule};
-use indexmap::IndexSet;
+use indexmap::IndexMap;
 use std::alloc::{AllocError, Global};
 
-/// A base automaton, and for each of its cone types a cell, by its parent side, and the answers
-/// that it gave. The start cells are those of the first cone types, and are not asked.
+/// The node of a root, which no cell comes to.
+const NO_NODE: u32 = u32::MAX;
+
+/// A base automaton, and for each of its cone types a cell, by its parent side, and the node of the
+/// discrimination tree that stands for it. The start cells are those of the first cone types, and
+/// are not asked.
 #[derive(Drop)]
 pub struct Cones {
     pub types: Vec<ConeType>,
     pub(crate) kinds: usize,
     pub(crate) cells: Vec<PatchDart>,
-    pub(crate) names: IndexSet<Vec<u32>>,
+    nodes: Vec<u32>,
+    numbers: IndexMap<u32, u32>,
 }
 
 impl Cones {
@@ -35,19 +40,15 @@ impl Cones {
             types: Vec::new(alloc),
             kinds: kinds as usize,
             cells,
-            names: IndexSet::new(alloc),
+            nodes: vec![in alloc; NO_NODE; kinds as usize]?,
+            numbers: IndexMap::new(alloc),
         })
     }
 
-    /// The answers that name a cone type; none of that of a root.
-    pub(crate) fn name(&self, cone_type: u32) -> &[u32] {
-        let Some(behind) = (cone_type as usize).checked_sub(self.kinds) else {
-            return &[];
-        };
-        match self.names.get_index(behind) {
-            Some(name) => name.as_slice(),
-            None => &[],
-        }
+    /// The node that stands for a cone type.
+    pub(crate) fn node(&self, cone_type: u32) -> u32 {
+        let node = self.nodes.get(cone_type as usize);
+        node.copied().unwrap_or(NO_NODE)
     }
 
     /// The cell of a cone type.
@@ -56,23 +57,50 @@ impl Cones {
     }
 
     /// The rule of a side of a cone type.
-    pub(crate) fn rule(&self, cone_type: u32, side: u8) -> Option<Rule> {
-        let cone_type = self.types.get(cone_type as usize)?;
+    pub(crate) fn rule(&self, cone_type: usize, side: u8) -> Option<Rule> {
+        let cone_type = self.types.get(cone_type)?;
         cone_type.rules.get(side as usize).copied()
     }
 
-    /// The number of the cone type of a name, that of a new one with its cell where it is new.
-    fn number(&mut self, name: Vec<u32>, cell: PatchDart) -> Result<u32, AskFault>
+    /// The number of the cone type that a node stands for, that of a new one with its cell where
+    /// none is known.
+    pub(crate) fn number(&mut self, node: u32, cell: PatchDart) -> Result<u32, AskFault>
         ensures types { self.new.types ≡ self.old.types }
         ensures cells { length self.old.cells.items ≤ length self.new.cells.items }
     {
-        let (index, is_new) = self.names.insert_full(name)?;
-        if is_new {
-            self.cells.push(cell)?;
+        if let Some(known) = self.numbers.get(&node) {
+            return Ok(*known);
         }
-        match u32::try_from(index.saturating_add(self.kinds)) {
-            Ok(number) => Ok(number),
-            Err(_) => Err(AskFault::Memory),
+        let Ok(number) = u32::try_from(self.cells.len()) else {
+            return Err(AskFault::Memory);
+        };
+        self.numbers.insert(node, number)?;
+        self.nodes.push(node)?;
+        self.cells.push(cell)?;
+        Ok(number)
+    }
+
+    /// From now on another node stands for a cone type.
+    pub(crate) fn rename(&mut self, cone_type: u32, node: u32) -> Result<(), AskFault>
+        ensures types { self.new.types ≡ self.old.types }
+        ensures cells { self.new.cells ≡ self.old.cells }
+    {
+        self.numbers.insert(node, cone_type)?;
+        if let Some(name) = self.nodes.get_mut(cone_type as usize) {
+            *name = node;
+        }
+        Ok(())
+    }
+
+    /// Notes that a side of a cone type leads to a child of another one.
+    pub(crate) fn set_child(&mut self, cone_type: usize, side: u8, child: u32)
+        ensures types { length self.new.types.items ≡ length self.old.types.items }
+        ensures cells { self.new.cells ≡ self.old.cells }
+    {
+        if let Some(cone_type) = self.types.get_mut(cone_type) {
+            if let Some(rule) = cone_type.rules.get_mut(side as usize) {
+                *rule = Rule::Child(child);
+            }
         }
     }
 }
@@ -87,17 +115,38 @@ impl Questions {
     /// `Full` where cells are wanted and as many are made as may be, `Memory` where there is none.
     pub fn pass(&mut self, patches: &mut Patches, kinds: u16) -> Result<Option<Cones>, AskFault>
         ensures most { patches.new.most ≡ patches.old.most }
+        ensures types { IfOk result (λ o. IfSome o (λ cones.
+            length cones.types.items ≤ 20000)) }
     {
         let mut cones = Cones::start(self.alloc, patches, kinds)?;
-        for number in 0..=MOST_TYPES {
+        if self.read_rest(patches, &mut cones)? {
+            Ok(Some(cones))
+        } else {
+            Ok(None)
+        }
+    }
+
+    /// Reads the cone types that have a cell and were not read. Answers false where a cell has less
+    /// than a full turn, or there are over 20,000 cone types.
+    pub(crate) fn read_rest(
+        &mut self,
+        patches: &mut Patches,
+        cones: &mut Cones,
+    ) -> Result<bool, AskFault>
+        ensures most { patches.new.most ≡ patches.old.most }
+        ensures types { IfOk result (λ whole. IsTrue whole
+            → length cones.new.types.items ≤ 20000) }
+        ensures kept { length cones.old.types.items ≤ length cones.new.types.items }
+    {
+        for number in cones.types.len()..=MOST_TYPES {
             let Some(cell) = cones.cells.get(number).copied() else {
-                return Ok(Some(cones));
+                return Ok(true);
             };
-            if !self.read_type(patches, &mut cones, cell)? {
-                return Ok(None);
+            if !self.read_type(patches, cones, cell)? {
+                return Ok(false);
             }
         }
-        Ok(None)
+        Ok(false)
     }
 
     /// Reads the next cone type off its cell. Answers false where the cell has less than a full
@@ -110,6 +159,7 @@ impl Questions {
     ) -> Result<bool, AskFault>
         ensures types { IfOk result (λ whole. IsTrue whole
             → length cones.new.types.items ≡ length cones.old.types.items + 1) }
+        ensures kept { length cones.old.types.items ≤ length cones.new.types.items }
         ensures cells { length cones.old.cells.items ≤ length cones.new.cells.items }
         ensures most { patches.new.most ≡ patches.old.most }
     {
@@ -151,8 +201,8 @@ impl Questions {
         let Some(child) = across(patches, cell, side) else {
             return Ok(Rule::Right);
         };
-        let name = self.sift(patches, child)?;
+        let node = self.sift(patches, child)?;
         let child = across(patches, cell, side).unwrap_or(child);
-        Ok(Rule::Child(cones.number(name, child)?))
+        Ok(Rule::Child(cones.number(node, child)?))
     }
 }

@@ -23,6 +23,7 @@ mod fault;
 mod limits;
 mod questions;
 mod sides;
+mod splits;
 mod steps;
 #[cfg(test)]
 mod tests;

@@ -20,10 +20,12 @@ mod splitting;
 mod stuck;
 mod trail;
 mod tree;
+mod ways;
 
 pub use dart::TreeDart;
 pub use limits::Limits;
 pub use splitting::{Split, split_by_looks};
+pub use ways::way_of_look;
 
 #[cfg(test)]
 mod tests;

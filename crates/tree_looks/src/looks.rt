@@ -43,11 +43,6 @@ impl Looks {
         }
     }
 
-    /// Forgets the corners that were looked at. Shapes keep their numbers.
-    pub(crate) fn forget(&mut self) {
-        self.known.clear();
-    }
-
     /// Adds to a key the look of the corner at the left end of a dart: its place, and the shapes of
     /// the corner and of so many corners outside it.
     pub(crate) fn add_look(

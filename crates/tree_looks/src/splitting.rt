@@ -3,11 +3,10 @@ ghost use Rattle.std.specs.Prelude.{length, IfOk};
 ghost use Rattle.tree_looks.specs.Splits.{IsWithin};
 
 use crate::dart::{NodeDart, TreeDart};
-use crate::limits::{Limits, MOST_NOTED};
+use crate::limits::Limits;
 use crate::looks::Looks;
 use crate::scout::Scout;
 use crate::stuck::Stuck;
-use crate::trail::Trail;
 use crate::tree::Tree;
 use cone_types::ConeType;
 use indexmap::IndexSet;
@@ -20,9 +19,9 @@ use tree_model::Rule;
 pub enum Split {
     /// The cone types, split where looks differ.
     Types(Vec<ConeType>),
-    /// Corners that do not close: for each the darts that the look came by, in order, each once.
-    /// None where there are too many cone types and no open corner was met.
-    Open(Vec<Vec<TreeDart>>),
+    /// Corners that do not close, each by a dart whose left end it is. None where there are too many
+    /// cone types and no open corner was met.
+    Open(Vec<TreeDart>),
 }
 
 /// Splits the cone types of a base automaton by looks: tiles of one new cone type have one old cone
@@ -75,7 +74,7 @@ struct Splitter<'a> {
     /// The old cone type and the looks of all corners, of each new cone type but for the roots.
     keys: IndexSet<Vec<u32>>,
     /// The open corners.
-    open: Vec<Vec<TreeDart>>,
+    open: Vec<TreeDart>,
 }
 
 impl<'a> Splitter<'a> {
@@ -173,20 +172,11 @@ impl<'a> Splitter<'a> {
         }
     }
 
-    /// Tells the darts that a look at an open corner comes by where nothing was looked at before.
-    /// Gets stuck where enough open corners were told.
+    /// Tells an open corner. Gets stuck where enough of them were told.
     fn tell(&mut self, d: NodeDart) -> Result<(), Stuck> {
-        self.looks.forget();
-        self.scout.trail = Trail::of(self.alloc, MOST_NOTED);
-        let _is_closed = self.is_closed(d, &mut Vec::new(self.alloc))?;
-        let trail = std::mem::replace(&mut self.scout.trail, Trail::of(self.alloc, 0));
-        let mut darts = Vec::with_capacity(self.alloc, trail.darts().len())?;
-        for noted in trail.darts() {
-            if let Some(dart) = self.scout.tree.named(self.alloc, *noted)? {
-                darts.push(dart)?;
-            }
+        if let Some(corner) = self.scout.tree.named(self.alloc, d)? {
+            self.open.push(corner)?;
         }
-        self.open.push(darts)?;
         if self.open.len() >= self.limits.open || self.scout.tree.is_full() {
             return Err(Stuck::Open);
         }

@@ -1,6 +1,6 @@
 //! Base automata that a plain Rust program found, each with the numbers of cone types that it was
 //! split into there, and the numbers of open corners.
-use crate::{Limits, Split, TreeDart, split_by_looks};
+use crate::{Limits, Split, TreeDart, split_by_looks, way_of_look};
 use cone_types::{ConeType, Rule};
 use std::alloc::{AllocError, Global};
 use std::test::Fail;
@@ -63,18 +63,11 @@ fn automaton(alloc: Global, rows: &[(u8, u8, &str)]) -> Result<Vec<ConeType>, Al
     Ok(types)
 }
 
-/// How many cone types there are, or else how many open corners are told, and how many darts in
-/// all.
-fn counts(split: &Split) -> Result<usize, (usize, usize)> {
+/// How many cone types there are, or else how many open corners are told.
+fn count(split: &Split) -> Result<usize, usize> {
     match split {
         Split::Types(types) => Ok(types.len()),
-        Split::Open(corners) => {
-            let mut darts: usize = 0;
-            for corner in corners.iter() {
-                darts = darts.saturating_add(corner.len());
-            }
-            Err((corners.len(), darts))
-        }
+        Split::Open(corners) => Err(corners.len()),
     }
 }
 
@@ -143,7 +136,7 @@ fn heptagons_need_no_split(rt: HostRuntime) -> Result<(), Fail> {
     let types = automaton(alloc, &OF_HEPTAGONS)?;
     for horizon in [0, 1, 2, 4, 8, 16, 32] {
         let split = split_by_looks(alloc, &tess, &types, horizon, LIMITS)?;
-        assert_eq!(rt; counts(&split), Ok(8), "{horizon}");
+        assert_eq!(rt; count(&split), Ok(8), "{horizon}");
     }
     Ok(())
 }
@@ -157,16 +150,16 @@ fn squares_are_split(rt: HostRuntime) -> Result<(), Fail> {
     let types = automaton(alloc, &OF_SQUARES)?;
     for (horizon, want) in [(0, 21), (1, 23), (2, 23), (8, 23), (32, 23)] {
         let split = split_by_looks(alloc, &tess, &types, horizon, LIMITS)?;
-        assert_eq!(rt; counts(&split), Ok(want), "{horizon}");
+        assert_eq!(rt; count(&split), Ok(want), "{horizon}");
     }
     let few = Limits {
         types: 22,
         open: 40,
     };
     let split = split_by_looks(alloc, &tess, &types, 0, few)?;
-    assert_eq!(rt; counts(&split), Ok(21));
+    assert_eq!(rt; count(&split), Ok(21));
     let split = split_by_looks(alloc, &tess, &types, 1, few)?;
-    assert_eq!(rt; counts(&split), Err((0, 0)));
+    assert_eq!(rt; count(&split), Err(0));
     Ok(())
 }
 
@@ -189,14 +182,26 @@ fn is_there(types: &[ConeType], dart: &TreeDart) -> bool {
     }
 }
 
-/// Whether all darts that are told are there.
-fn are_there(types: &[ConeType], split: &Split) -> bool {
-    match split {
-        Split::Types(_) => true,
-        Split::Open(corners) => corners
-            .iter()
-            .all(|corner| corner.iter().all(|dart| is_there(types, dart))),
+/// How many darts the looks at corners come by in all, if none of the corners closes and all these
+/// darts are there.
+fn darts_of_looks(
+    alloc: Global,
+    tess: &Tessellation,
+    types: &[ConeType],
+    corners: &[TreeDart],
+    horizon: u32,
+) -> Result<Option<usize>, AllocError> {
+    let mut darts: usize = 0;
+    for corner in corners {
+        let Some(way) = way_of_look(alloc, tess, types, corner, horizon)? else {
+            return Ok(None);
+        };
+        if !way.iter().all(|dart| is_there(types, dart)) {
+            return Ok(None);
+        }
+        darts = darts.saturating_add(way.len());
     }
+    Ok(Some(darts))
 }
 
 #[test]
@@ -206,16 +211,31 @@ fn wrong_automata_have_open_corners(rt: HostRuntime) -> Result<(), Fail> {
         panic!(rt; "no tessellation");
     };
     let types = automaton(alloc, &TOO_COARSE)?;
-    let cases = [
-        (0, (9, 426)),
-        (1, (7, 330)),
-        (2, (16, 744)),
-        (4, (40, 1_748)),
-    ];
-    for (horizon, want) in cases {
+    for (horizon, corners, darts) in [(0, 9, 426), (1, 7, 330), (2, 16, 744), (4, 40, 1_748)] {
         let split = split_by_looks(alloc, &tess, &types, horizon, LIMITS)?;
-        assert_eq!(rt; counts(&split), Err(want), "{horizon}");
-        assert!(rt; are_there(&types, &split), "{horizon}");
+        assert_eq!(rt; count(&split), Err(corners), "{horizon}");
+        if let Split::Open(open) = &split {
+            let told = darts_of_looks(alloc, &tess, &types, open, horizon)?;
+            assert_eq!(rt; told, Some(darts), "{horizon}");
+        }
+    }
+    Ok(())
+}
+
+#[test]
+fn a_look_at_a_corner_that_closes_has_no_way(rt: HostRuntime) -> Result<(), Fail> {
+    let alloc = rt.alloc();
+    let Ok(tess) = Tessellation::make(squares(alloc)?) else {
+        panic!(rt; "no tessellation");
+    };
+    let types = automaton(alloc, &OF_SQUARES)?;
+    for (name, side) in [(&[0][..], 1), (&[0, 3], 2), (&[99], 0), (&[0], 99)] {
+        let corner = TreeDart {
+            root: 0,
+            name: Vec::from_slice(alloc, name)?,
+            side,
+        };
+        assert!(rt; way_of_look(alloc, &tess, &types, &corner, 2)?.is_none());
     }
     Ok(())
 }
