@@ -13,10 +13,12 @@ mod outness;
 mod parents;
 mod patch;
 mod patches;
+mod settling;
 mod sides;
 
 pub use dart::PatchDart;
 pub use patches::Patches;
+pub use settling::Settled;
 pub use sides::Sides;
 
 #[cfg(test)]

@@ -15,6 +15,10 @@ pub(crate) const BRANCH_STEPS: u32 = 2_000_000;
 /// there were none.
 pub(crate) const PARENT_LOOKS: u32 = 100_000_000;
 
+/// How often the corners from which a parent side is chosen are closed again, since closing them
+/// changed something. Two or three times are usual.
+pub(crate) const SETTLINGS: u32 = 1_000;
+
 /// Parts of a branch that are walked up one after the other.
 pub(crate) const BRANCH_PARTS: u32 = 2_000_000;
 

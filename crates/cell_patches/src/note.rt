@@ -12,11 +12,13 @@ pub(crate) enum Known {
     Chosen(Option<u8>, u64),
 }
 
-/// What is known of the parent side of a cell, and whether the cell was found renamed. While parent
-/// sides are found, `waiting` is the cell whose parent side waits for that of this one.
+/// What is known of the parent side of a cell, whether that was found after the corners from which
+/// it is chosen were closed, and whether the cell was found renamed. While parent sides are found,
+/// `waiting` is the cell whose parent side waits for that of this one.
 #[derive(Clone, Copy, Debug)]
 pub(crate) struct CellNote {
     pub(crate) known: Known,
+    pub(crate) settled: bool,
     pub(crate) gone: bool,
     pub(crate) waiting: u32,
 }
@@ -26,6 +28,7 @@ impl CellNote {
     pub(crate) fn new() -> CellNote {
         CellNote {
             known: Known::Nothing,
+            settled: false,
             gone: false,
             waiting: 0,
         }

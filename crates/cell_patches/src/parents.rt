@@ -178,6 +178,25 @@ impl<'t> Patch<'t> {
     {
         if let Some(note) = self.notes.get_mut(cell as usize) {
             note.known = known;
+            note.settled = false;
+        }
+    }
+
+    /// The parent side of a cell, if it was settled and nothing changed next to the cell since.
+    pub(crate) fn settled_parent(&self, cell: u32) -> Option<u8> {
+        let note = self.notes.get(cell as usize)?;
+        match note.known {
+            Known::Sole(side, era) if note.settled && era == self.era => Some(side),
+            _ => None,
+        }
+    }
+
+    /// Notes that the corners are closed from which the parent side of a cell was chosen.
+    pub(crate) fn note_settled(&mut self, cell: u32)
+        ensures { self.new ≡ self.old }
+    {
+        if let Some(note) = self.notes.get_mut(cell as usize) {
+            note.settled = true;
         }
     }
 

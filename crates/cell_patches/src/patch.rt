@@ -184,6 +184,7 @@ impl<'t> Patch<'t> {
     {
         if let Some(note) = self.notes.get_mut(cell as usize) {
             note.known = Known::Nothing;
+            note.settled = false;
         }
     }
 

@@ -320,6 +320,27 @@ impl<'t> Patches<'t> {
         })
     }
 
+    /// The parent side of the cell of a dart, if it was settled and nothing changed next to the cell
+    /// since.
+    pub(crate) fn settled_parent(&self, d: PatchDart) -> Option<PatchDart>
+        ensures patch { IfSome result (λ e. e.patch ≡ d.patch) }
+        ensures cell { IfSome result (λ e. e.cell ≡ d.cell) }
+    {
+        let patch = self.patches.get(d.patch as usize)?;
+        let side = patch.settled_parent(d.cell)?;
+        Some(PatchDart { side, ..d })
+    }
+
+    /// Notes that the corners are closed from which the parent side of a cell was chosen.
+    pub(crate) fn keep_settled(&mut self, d: PatchDart)
+        ensures { self.new ≡ self.old }
+    {
+        let at = d.patch as usize;
+        if at < self.patches.len() {
+            self.patches[at].note_settled(d.cell);
+        }
+    }
+
     /// Whether the branch that leaves through the first dart comes before the one that leaves
     /// through the second, from left to right. Of a dart that is joined to the other one: whether
     /// it is a Left.

@@ -17,9 +17,12 @@ pub(crate) const MOST_RING_TYPES: usize = 1_000;
 /// longer than it saves.
 pub(crate) const FEW_TYPES: usize = 300;
 
-/// So many cone types stand for one look at an open corner: where fewer corners are open than that,
-/// to read the base automaton again takes longer than to follow them.
-pub(crate) const TYPES_A_LOOK: usize = 100;
+/// The looks at open corners in one round for which a base automaton with so many cone types is worth
+/// to be read again: where fewer corners are open, they are followed. It takes the longer to read,
+/// the more cone types there are, and the fewer readings can be afforded.
+pub(crate) fn looks_worth_reading(types: usize) -> usize {
+    types.saturating_mul(types) / 100_000
+}
 
 /// The most corner types that are ranked, as many as rules may have.
 pub(crate) const MOST_CORNERS: usize = 20_000;

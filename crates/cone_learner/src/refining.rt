@@ -1,7 +1,7 @@
 //! One round of refinement: open corners are followed in the cells.
 ghost use Rattle.std.specs.Prelude.{◌≡◌};
 
-use crate::limits::{TYPES_A_LOOK, WIDENED, most_compared, most_widened};
+use crate::limits::{WIDENED, looks_worth_reading, most_compared, most_widened};
 use cell_patches::{PatchDart, Patches};
 use cone_questions::{AskFault, Comparison, Cones, Found, Questions};
 use std::alloc::{AllocError, Global};
@@ -74,7 +74,7 @@ impl Refinement {
     ) -> Result<Outcome, AskFault>
         ensures most { patches.new.most ≡ patches.old.most }
     {
-        let looks = cones.types.len() / TYPES_A_LOOK;
+        let looks = looks_worth_reading(cones.types.len());
         let bounds = Bounds {
             cells: most_compared(patches.made()),
             looks,

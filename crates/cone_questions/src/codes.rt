@@ -50,22 +50,38 @@ fn farther(distance: u32, than: u32) -> i8 {
 }
 
 /// Writes down how much farther out than its cell the tiles round the corner at the left end of a
-/// dart lie, as far as they are there. Answers whether the corner is generic.
-fn write_corner(patches: &Patches, d: PatchDart, corner: &mut Vec<i8>) -> Result<bool, AllocError> {
+/// dart lie, under its own name, as far as they are there. Answers whether the corner is generic;
+/// None where not all tiles are there, or they do not lead back to the dart.
+fn write_corner(
+    patches: &Patches,
+    d: PatchDart,
+    corner: &mut Vec<i8>,
+) -> Result<Option<bool>, AllocError> {
     let valence = patches.valence(d);
     let distance = patches.distance(d);
     let mut generic = true;
     let mut at = d;
     for step in 1..valence {
-        let Some(over) = patches.joined(patches.turned(at, 1)) else {
-            return Ok(false);
+        let Some(over) = patches.joined(next_left(at)) else {
+            return Ok(None);
         };
         at = over;
         let farther = farther(patches.distance(at), distance);
         corner.push(farther)?;
         generic = generic && farther as i16 == step.min(valence - step) as i16;
     }
-    Ok(generic)
+    if patches.joined(next_left(at)) != Some(d) {
+        return Ok(None);
+    }
+    Ok(Some(generic))
+}
+
+/// The next side to the left, as a dart that `joined` takes.
+fn next_left(d: PatchDart) -> PatchDart {
+    PatchDart {
+        side: d.side.saturating_add(1),
+        ..d
+    }
 }
 
 /// Whether a dart is the parent side of its cell still, under its own name.
@@ -78,7 +94,8 @@ fn stands(patches: &mut Patches, d: PatchDart) -> bool
     parent(patches, d) == Some(d)
 }
 
-/// Closes the corner so many sides to the left of a parent side, and writes it down.
+/// Closes the corner so many sides to the left of a parent side, and writes it down. Mostly it is
+/// whole already, and nothing changes.
 fn look(
     patches: &mut Patches,
     z: PatchDart,
@@ -87,12 +104,19 @@ fn look(
 ) -> Result<Corner, AskFault>
     ensures most { patches.new.most ≡ patches.old.most }
 {
-    close_side(patches, z, side)?;
-    if !stands(patches, z) {
-        return Ok(Corner::Moved);
-    }
+    let written = corner.len();
     let at = side_of(patches, z, side);
-    if write_corner(patches, at, corner)? {
+    let mut generic = write_corner(patches, at, corner)?;
+    if generic.is_none() {
+        corner.truncate(written);
+        close_side(patches, z, side)?;
+        if !stands(patches, z) {
+            return Ok(Corner::Moved);
+        }
+        let at = side_of(patches, z, side);
+        generic = write_corner(patches, at, corner)?;
+    }
+    if generic == Some(true) {
         Ok(Corner::Generic)
     } else {
         Ok(Corner::Other)
@@ -117,7 +141,7 @@ fn look_across(
     }
     if let Some(neighbour) = across(patches, z, side) {
         let at = side_of(patches, neighbour, over);
-        write_corner(patches, at, corner)?;
+        let _generic = write_corner(patches, at, corner)?;
     }
     Ok(Corner::Other)
 }

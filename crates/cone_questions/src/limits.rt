@@ -4,10 +4,6 @@
 /// The most cone types: as many as rules may have states.
 pub(crate) const MOST_TYPES: usize = 20_000;
 
-/// How often the corners from which a parent side is chosen are closed again, since closing them
-/// changed something. Two or three times are usual.
-pub(crate) const SETTLINGS: u32 = 1_000;
-
 /// How often a code is begun again, since the parent side turned out to be another one. Once or
 /// twice is usual.
 pub(crate) const READINGS: u32 = 1_000;

@@ -2,8 +2,7 @@
 ghost use Rattle.std.specs.Prelude.{◌≡◌};
 
 use crate::fault::AskFault;
-use crate::limits::SETTLINGS;
-use cell_patches::{PatchDart, Patches};
+use cell_patches::{PatchDart, Patches, Settled};
 
 /// Makes and closes all tiles round the corner at the left end of a dart.
 pub(crate) fn close(patches: &mut Patches, d: PatchDart) -> Result<(), AskFault>
@@ -18,7 +17,7 @@ pub(crate) fn close(patches: &mut Patches, d: PatchDart) -> Result<(), AskFault>
 
 /// The dart so many sides to the left of another one, as both are named now.
 pub(crate) fn side_of(patches: &Patches, d: PatchDart, side: u8) -> PatchDart {
-    patches.turned(patches.named(d), side)
+    patches.turned(d, side)
 }
 
 /// Closes the corner so many sides to the left of a dart.
@@ -42,34 +41,14 @@ pub(crate) fn parent(patches: &mut Patches, d: PatchDart) -> Option<PatchDart>
     patches.parent(at)
 }
 
-/// Closes the corners at the left ends of the sides from which the parent side is chosen.
-fn close_lasts(patches: &mut Patches, d: PatchDart) -> Result<(), AskFault>
-    ensures most { patches.new.most ≡ patches.old.most }
-{
-    let at = patches.named(d);
-    let lasts = patches.lasts(at);
-    for side in 0..patches.turn(at) {
-        if lasts.has(side) {
-            close_side(patches, PatchDart { side, ..at }, 0)?;
-        }
-    }
-    Ok(())
-}
-
 /// The parent side of the cell of a dart, once the corners from which it is chosen are closed; None
 /// for a start cell.
 pub(crate) fn settle(patches: &mut Patches, d: PatchDart) -> Result<Option<PatchDart>, AskFault>
     ensures most { patches.new.most ≡ patches.old.most }
 {
-    for turn in 0..SETTLINGS {
-        if patches.distance(patches.named(d)) == 0 {
-            return Ok(None);
-        }
-        let before = patches.changes();
-        close_lasts(patches, d)?;
-        if patches.changes() == before {
-            break;
-        }
+    match patches.settle(d)? {
+        Settled::Start => Ok(None),
+        Settled::Parent(parent) => Ok(Some(parent)),
+        Settled::Full => Err(AskFault::Full),
     }
-    Ok(parent(patches, d))
 }

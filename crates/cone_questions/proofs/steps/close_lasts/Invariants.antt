@@ -1,6 +1,0 @@
--- As many cells may be made as before.
-use Rattle.std.proofs.Common.{◌≡◌}
-use Rattle.cone_questions.proofs.steps.close_lasts.Given as goal
-
-abbrev pub invariant-loop-side : goal.invariant-loop-side
-invariant-loop-side l = l.patches.most ≡ l.fn.patches.most

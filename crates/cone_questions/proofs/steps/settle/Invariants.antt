@@ -1,6 +1,0 @@
--- As many cells may be made as before.
-use Rattle.std.proofs.Common.{◌≡◌}
-use Rattle.cone_questions.proofs.steps.settle.Given as goal
-
-abbrev pub invariant-loop-turn : goal.invariant-loop-turn
-invariant-loop-turn l = l.patches.most ≡ l.fn.patches.most
