@@ -1,5 +1,5 @@
 // Heptagons that lie three round each corner, and triangles seven.
-use crate::{PatchDart, Patches};
+use crate::{PatchDart, Patches, Settled};
 use std::alloc::{AllocError, Global};
 use std::test::Fail;
 use tile_kinds::{Kind, Tessellation};
@@ -39,6 +39,7 @@ fn closes_the_corners_of_a_heptagon(rt: HostRuntime) -> Result<(), Fail> {
     let start = patches.start_of(0);
     assert!(rt; patches.joined(start).is_none());
     assert!(rt; patches.parent(start).is_none());
+    assert_eq!(rt; patches.settle(start)?, Settled::Start);
     assert!(rt; close_all(&mut patches, 7)?);
     assert_eq!(rt; patches.made(), 8);
     let changes = patches.changes();
@@ -54,6 +55,11 @@ fn closes_the_corners_of_a_heptagon(rt: HostRuntime) -> Result<(), Fail> {
         assert_eq!(rt; patches.joined(over), Some(d));
         assert_eq!(rt; patches.distance(over), 1);
         assert_eq!(rt; patches.parent(over), Some(over));
+        assert_eq!(rt; patches.settle(over)?, Settled::Parent(over));
+        assert_eq!(rt;
+            patches.settle(patches.turned(over, 3))?,
+            Settled::Parent(over)
+        );
         assert_eq!(rt; patches.sides(over), 7);
         assert_eq!(rt; patches.turn(over), 7);
         assert_eq!(rt; patches.valence(over), 3);
@@ -86,6 +92,10 @@ fn makes_no_more_than_it_may(rt: HostRuntime) -> Result<(), Fail> {
     assert_eq!(rt; patches.most(), 9);
     assert!(rt; !close_all(&mut patches, 3)?);
     assert_eq!(rt; patches.made(), 9);
+    let Some(child) = patches.joined(patches.start_of(0)) else {
+        panic!(rt; "no cell across");
+    };
+    assert_eq!(rt; patches.settle(child)?, Settled::Full);
     let nowhere = PatchDart {
         patch: 3,
         cell: 5,

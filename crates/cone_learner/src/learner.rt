@@ -143,7 +143,13 @@ fn learn_at(
             let rules = candidate.rules;
             return Ok(Attempt { rules, types });
         }
-        match refine(alloc, &mut questions, patches, &mut reading, &candidate.open)? {
+        match refine(
+            alloc,
+            &mut questions,
+            patches,
+            &mut reading,
+            &candidate.open,
+        )? {
             Next::Stop => return Ok(Attempt { rules: None, types }),
             Next::TryAgain => held = Some(reading),
             Next::ReadAgain => held = None,

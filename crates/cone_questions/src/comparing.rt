@@ -351,7 +351,10 @@ impl Comparison {
             return Ok(Found::Known);
         }
         let side = way.word.get(behind).copied().unwrap_or(0);
-        if let Some(cell) = cones.cell(*parent).and_then(|cell| across(patches, cell, side)) {
+        if let Some(cell) = cones
+            .cell(*parent)
+            .and_then(|cell| across(patches, cell, side))
+        {
             if questions.sift(patches, cell)? != cones.node(*child) {
                 return Ok(Found::Moved(*parent, side));
             }

@@ -5,7 +5,7 @@ use cell_patches::Patches;
 use std::alloc::{AllocError, Global};
 use std::test::Fail;
 use tile_kinds::{Kind, Tessellation};
-use tree_looks::{Limits, Split, TreeDart, split_by_looks};
+use tree_looks::{Limits, Split, TreeDart, split_by_looks, way_of_look};
 
 const LIMITS: Limits = Limits {
     types: 100,
@@ -44,20 +44,52 @@ fn settled(
     Ok(None)
 }
 
-/// Whether a cone type is split by one of the darts of a way.
-fn is_split(
+/// The first thing that is found where the darts of a way are compared with the cells.
+fn first_found(
     questions: &mut Questions,
     patches: &mut Patches<'_>,
     cones: &Cones,
     comparison: &mut Comparison,
     way: &[TreeDart],
-) -> Result<bool, AskFault> {
+) -> Result<Found, AskFault> {
     for dart in way {
-        if comparison.compare(questions, patches, cones, dart)? != Found::Nothing {
-            return Ok(true);
+        let found = comparison.compare(questions, patches, cones, dart)?;
+        if found != Found::Nothing {
+            return Ok(found);
         }
     }
-    Ok(false)
+    Ok(Found::Nothing)
+}
+
+/// Follows all open corners once, and lets the base automaton go along if it is to. Answers how
+/// many splits there were.
+fn follow(
+    alloc: Global,
+    t: &Tessellation,
+    questions: &mut Questions,
+    patches: &mut Patches<'_>,
+    cones: &mut Cones,
+    goes_along: bool,
+) -> Result<u64, AskFault> {
+    let Split::Open(open) = split_by_looks(alloc, t, &cones.types, 0, LIMITS)? else {
+        return Ok(0);
+    };
+    let mut comparison = Comparison::new(alloc);
+    comparison.begin_sweep(cones);
+    let mut splits = 0u64;
+    for corner in &open {
+        if let Some(way) = way_of_look(alloc, t, &cones.types, corner, 0)? {
+            let found = first_found(questions, patches, cones, &mut comparison, &way)?;
+            match found {
+                Found::New(_) => splits = splits.saturating_add(1),
+                _ => {}
+            }
+            if goes_along && !questions.go_along(patches, cones, found)? {
+                return Ok(0);
+            }
+        }
+    }
+    Ok(splits)
 }
 
 #[test]
@@ -70,24 +102,35 @@ fn splits_cone_types_where_corners_are_open(rt: HostRuntime) -> Result<(), Fail>
         panic!(rt; "no cells");
     };
     let mut questions = Questions::new(alloc, Level::Near);
-    let Some(cones) = settled(&mut questions, &mut patches, t.kinds())? else {
+    let Some(mut cones) = settled(&mut questions, &mut patches, t.kinds())? else {
         panic!(rt; "not whole");
     };
     assert_eq!(rt; cones.types.len(), 6);
-    let Split::Open(open) = split_by_looks(alloc, &t, &cones.types, 0, LIMITS)? else {
-        panic!(rt; "no open corner");
-    };
-    let mut comparison = Comparison::new(alloc);
-    let mut splits = 0u64;
-    for way in &open {
-        if is_split(&mut questions, &mut patches, &cones, &mut comparison, way)? {
-            splits = splits.saturating_add(1);
-        }
-    }
+    let splits = follow(alloc, &t, &mut questions, &mut patches, &mut cones, false)?;
     assert!(rt; splits > 0);
+    assert_eq!(rt; cones.types.len(), 6);
     let Some(cones) = settled(&mut questions, &mut patches, t.kinds())? else {
         panic!(rt; "not whole");
     };
+    assert_eq!(rt; cones.types.len(), 8);
+    Ok(())
+}
+
+#[test]
+fn a_base_automaton_goes_along_with_splits(rt: HostRuntime) -> Result<(), Fail> {
+    let alloc = rt.alloc();
+    let Ok(t) = Tessellation::make(kinds(alloc)?) else {
+        panic!(rt; "refused");
+    };
+    let Some(mut patches) = Patches::start(alloc, &t, 1_000)? else {
+        panic!(rt; "no cells");
+    };
+    let mut questions = Questions::new(alloc, Level::Near);
+    let Some(mut cones) = settled(&mut questions, &mut patches, t.kinds())? else {
+        panic!(rt; "not whole");
+    };
+    let splits = follow(alloc, &t, &mut questions, &mut patches, &mut cones, true)?;
+    assert!(rt; splits > 0);
     assert_eq!(rt; cones.types.len(), 8);
     Ok(())
 }
@@ -111,6 +154,7 @@ fn follows_a_child_of_the_root(rt: HostRuntime) -> Result<(), Fail> {
         side: 1,
     };
     let mut comparison = Comparison::new(alloc);
+    comparison.begin_sweep(&cones);
     assert_eq!(rt; comparison.cell(&dart)?, None);
     let found = comparison.compare(&mut questions, &mut patches, &cones, &dart)?;
     assert_eq!(rt; found, Found::Nothing);
