@@ -3,8 +3,10 @@ ghost use Rattle.std.specs.Prelude.{◌≤◌};
 
 use crate::by_regions::learn_by_regions;
 use crate::{LearnFault, Learner, Teacher, learn};
+use cone_learner::learn_cones;
 use region_grower::Region;
 use regular_maker::{RegFault, regular as regular_rules};
+use rules_data::{Automaton, Rule};
 use std::alloc::{AllocError, Global};
 use std::test::Fail;
 use structure_check::Rules;
@@ -37,6 +39,15 @@ fn truncated(alloc: Global, p: u8, q: u8) -> Result<Vec<Kind>, AllocError> {
     let mut kinds = Vec::new(alloc);
     kinds.push(kind(alloc, q, 1, &[(1, 0)], &[3])?)?;
     kinds.push(kind(alloc, 2 * (p % 32), 2, &[(0, 0), (1, 1)], &[3, 3])?)?;
+    Ok(kinds)
+}
+
+// A regular tessellation cut down to the middles of its edges: tiles with p and with q sides, four
+// round each corner.
+fn rectified(alloc: Global, p: u8, q: u8) -> Result<Vec<Kind>, AllocError> {
+    let mut kinds = Vec::new(alloc);
+    kinds.push(kind(alloc, p, 1, &[(1, 0)], &[4])?)?;
+    kinds.push(kind(alloc, q, 1, &[(0, 0)], &[4])?)?;
     Ok(kinds)
 }
 
@@ -154,5 +165,93 @@ fn counts_give_ups(rt: HostRuntime) -> Result<(), Fail> {
     assert_eq!(rt; first, Said::GaveUp(4, 1));
     assert_eq!(rt; second, Said::GaveUp(1, 0));
     assert_eq!(rt; learner.give_ups(), 2);
+    Ok(())
+}
+
+// A name of the tree of a root, and the state that it comes to.
+#[derive(Drop)]
+struct Name {
+    state: u32,
+    sides: Vec<u8>,
+}
+
+// Adds the names that are one side longer than a name, from left to right.
+fn add_children(
+    alloc: Global,
+    automaton: &Automaton,
+    name: &Name,
+    longer: &mut Vec<Name>,
+) -> Result<(), AllocError> {
+    let Some(state) = automaton.states.get(name.state as usize) else {
+        return Ok(());
+    };
+    for (side, rule) in (0..u8::MAX).zip(&state.rules) {
+        if let Rule::Child(state) = *rule {
+            let mut sides = Vec::from_slice(alloc, &name.sides)?;
+            sides.push(side)?;
+            longer.push(Name { state, sides })?;
+        }
+    }
+    Ok(())
+}
+
+// The names of a ring of the tree of the first root.
+fn ring(alloc: Global, rules: &Rules, distance: u8) -> Result<Vec<Name>, AllocError> {
+    let automaton = rules.automaton();
+    let mut names = Vec::new(alloc);
+    if let Some(root) = automaton.roots.first() {
+        names.push(Name {
+            state: *root,
+            sides: Vec::new(alloc),
+        })?;
+    }
+    for step in 0..distance {
+        let mut longer = Vec::new(alloc);
+        for name in &names {
+            add_children(alloc, automaton, name, &mut longer)?;
+        }
+        names = longer;
+    }
+    Ok(names)
+}
+
+// Whether two lists have the same names.
+fn are_same(a: &[Name], b: &[Name]) -> bool {
+    if a.len() != b.len() {
+        return false;
+    }
+    a.iter()
+        .zip(b)
+        .all(|(x, y)| x.sides.as_slice() == y.sides.as_slice())
+}
+
+// How many names a ring has by both ways of learning, if they have the same names; 0 if not.
+fn common_ring(alloc: Global, kinds: Vec<Kind>, distance: u8) -> Result<usize, AllocError> {
+    let Ok(t) = Tessellation::make(kinds) else {
+        return Ok(0);
+    };
+    let Err(RegFault::NotRegular) = regular_rules(alloc, &t) else {
+        return Ok(0);
+    };
+    let Ok(by_regions) = learn_by_regions(alloc, &t, 50_000) else {
+        return Ok(0);
+    };
+    let Some(by_cones) = learn_cones(alloc, &t, 50_000)?.rules else {
+        return Ok(0);
+    };
+    let a = ring(alloc, &by_regions, distance)?;
+    let b = ring(alloc, &by_cones, distance)?;
+    Ok(if are_same(&a, &b) { a.len() } else { 0 })
+}
+
+// The sizes were counted by another program.
+#[test]
+fn both_ways_have_the_same_rings(rt: HostRuntime) -> Result<(), Fail> {
+    let alloc = rt.alloc();
+    assert_eq!(rt; common_ring(alloc, truncated(alloc, 3, 7)?, 4)?, 49);
+    assert_eq!(rt; common_ring(alloc, truncated(alloc, 4, 5)?, 4)?, 100);
+    assert_eq!(rt; common_ring(alloc, truncated(alloc, 5, 4)?, 4)?, 168);
+    assert_eq!(rt; common_ring(alloc, rectified(alloc, 7, 3)?, 4)?, 21);
+    assert_eq!(rt; common_ring(alloc, rectified(alloc, 5, 4)?, 4)?, 40);
     Ok(())
 }
