@@ -76,6 +76,53 @@ fn learns_triangles_and_heptagons_in_two_rounds(rt: HostRuntime) -> Result<(), F
     Ok(())
 }
 
+/// Tiles of one kind, by their sides, and by what lies across their first sides, until these repeat,
+/// and at their corners.
+fn alike(
+    alloc: Global,
+    sides: u8,
+    across: &[u8],
+    valences: &[u8],
+) -> Result<Vec<Kind>, AllocError> {
+    let mut partner = Vec::new(alloc);
+    for side in across {
+        partner.push((0, *side))?;
+    }
+    let kind = Kind {
+        sides,
+        repeat: u8::try_from(across.len()).unwrap_or(0),
+        partner,
+        valence: Vec::from_slice(alloc, valences)?,
+    };
+    Ok(vec![in alloc; kind]?)
+}
+
+/// Duals of truncated {12,12} and {3,30}, then likewise of rectified, of rhombic and of snub ones.
+#[test]
+fn learns_duals_with_many_tiles_at_a_corner(rt: HostRuntime) -> Result<(), Fail> {
+    let alloc = rt.alloc();
+    let three = [2, 1, 0];
+    let four = [3, 2, 1, 0];
+    let five = [4, 1, 3, 2, 0];
+    for (sides, across, valences, states, corners) in [
+        (3, &three[..], &[24, 24, 12][..], 58, 3),
+        (3, &three, &[6, 6, 30], 40, 3),
+        (4, &[1, 0], &[12, 12], 21, 1),
+        (4, &[1, 0], &[30, 3], 88, 7),
+        (4, &four, &[4, 12, 4, 12], 25, 2),
+        (4, &four, &[4, 30, 4, 3], 39, 6),
+        (4, &four, &[4, 3, 4, 64], 73, 6),
+        (5, &five, &[3, 3, 12, 3, 12], 50, 12),
+        (5, &five, &[3, 3, 30, 3, 3], 73, 16),
+    ] {
+        let (found, types, cells) = learnt(alloc, alike(alloc, sides, across, valences)?, 50_000)?;
+        assert_eq!(rt; found, states, "{sides}");
+        assert_eq!(rt; types, corners, "{sides}");
+        assert!(rt; cells <= 4_730, "{sides}");
+    }
+    Ok(())
+}
+
 #[test]
 fn learns_nothing_of_a_cube(rt: HostRuntime) -> Result<(), Fail> {
     let alloc = rt.alloc();
