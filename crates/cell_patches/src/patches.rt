@@ -320,8 +320,8 @@ impl<'t> Patches<'t> {
         })
     }
 
-    /// The parent side of the cell of a dart, if it was settled and nothing changed next to the cell
-    /// since.
+    /// The parent side of the cell of a dart, if it was settled and nothing changed next to the
+    /// cell since.
     pub(crate) fn settled_parent(&self, d: PatchDart) -> Option<PatchDart>
         ensures patch { IfSome result (λ e. e.patch ≡ d.patch) }
         ensures cell { IfSome result (λ e. e.cell ≡ d.cell) }

@@ -13,13 +13,13 @@ pub(crate) const MOST_PASSES: u32 = 1_000;
 /// The most cone types with which the second level is tried: there each takes in many cells.
 pub(crate) const MOST_RING_TYPES: usize = 1_000;
 
-/// The cone types up to which they are merged before corners are looked at. With more, merging takes
-/// longer than it saves.
+/// The cone types up to which they are merged before corners are looked at. With more, merging
+/// takes longer than it saves.
 pub(crate) const FEW_TYPES: usize = 300;
 
-/// The looks at open corners in one round for which a base automaton with so many cone types is worth
-/// to be read again: where fewer corners are open, they are followed. It takes the longer to read,
-/// the more cone types there are, and the fewer readings can be afforded.
+/// The looks at open corners in one round for which it is worth to read a base automaton with so
+/// many cone types again: where fewer corners are open, they are followed. The more cone types
+/// there are, the longer it takes to read, and the fewer readings can be afforded.
 pub(crate) fn looks_worth_reading(types: usize) -> usize {
     types.saturating_mul(types) / 100_000
 }

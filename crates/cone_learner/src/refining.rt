@@ -62,9 +62,9 @@ impl Refinement {
         })
     }
 
-    /// Follows open corners in the cells, and splits cone types where the cells differ from the base
-    /// automaton. Many corners are each looked at once, and each cone type is split once. Where
-    /// there are few, the base automaton goes along, and they are followed until they close.
+    /// Follows open corners in the cells, and splits cone types where the cells differ from the
+    /// base automaton. Many corners are each looked at once, and each cone type is split once.
+    /// Where there are few, the base automaton goes along, and they are followed until they close.
     pub(crate) fn refine(
         &mut self,
         questions: &mut Questions,

@@ -76,8 +76,8 @@ fn learns_triangles_and_heptagons_in_two_rounds(rt: HostRuntime) -> Result<(), F
     Ok(())
 }
 
-/// Tiles of one kind, by their sides, and by what lies across their first sides, until these repeat,
-/// and at their corners.
+/// Tiles of one kind, by their sides, and by what lies across their first sides, until these
+/// repeat, and at their corners.
 fn alike(
     alloc: Global,
     sides: u8,

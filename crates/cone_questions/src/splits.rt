@@ -12,8 +12,8 @@ use cone_types::Rule;
 
 impl Questions {
     /// Brings a base automaton up to what a comparison found. Where a cone type was split, the
-    /// cells that count as of it are asked on; cone types that are new are read. Answers false where
-    /// a cell has less than a full turn, or there are over 20,000 cone types.
+    /// cells that count as of it are asked on; cone types that are new are read. Answers false
+    /// where a cell has less than a full turn, or there are over 20,000 cone types.
     ///
     /// Cells that were made since the rest was read may have changed it: only `pass` reads it all.
     ///

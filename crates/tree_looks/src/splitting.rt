@@ -19,8 +19,8 @@ use tree_model::Rule;
 pub enum Split {
     /// The cone types, split where looks differ.
     Types(Vec<ConeType>),
-    /// Corners that do not close, each by a dart whose left end it is. None where there are too many
-    /// cone types and no open corner was met.
+    /// Corners that do not close, each by a dart whose left end it is. None where there are too
+    /// many cone types and no open corner was met.
     Open(Vec<TreeDart>),
 }
 

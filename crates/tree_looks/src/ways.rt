@@ -15,8 +15,8 @@ use tree_model::Rule;
 
 /// The darts that a look at a corner comes by, in order, each once: one of them, or one next to
 /// them, shows why the corner does not close. The corner is that at the left end of a dart, and is
-/// looked at to a horizon as `split_by_looks` does. None where the corner closes, or the tree has no
-/// such dart. There are at most 8,000.
+/// looked at to a horizon as `split_by_looks` does. None where the corner closes, or the tree has
+/// no such dart. There are at most 8,000.
 ///
 /// # Errors
 ///
