@@ -51,10 +51,14 @@ fn find(scout: &mut Scout<'_>, kinds: u16, named: &TreeDart) -> Result<NodeDart,
         };
         node = scout.tree.child(d, cone_type)?;
     }
-    Ok(NodeDart {
+    let d = NodeDart {
         node,
         side: named.side,
-    })
+    };
+    match scout.tree.rule(d) {
+        Some(_) => Ok(d),
+        None => Err(Stuck::Open),
+    }
 }
 
 /// Looks at the corner at the left end of a dart, and tells the darts that it comes by where the
