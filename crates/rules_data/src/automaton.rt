@@ -1,6 +1,6 @@
 //! The automaton, and the entries of its tables by number.
 ghost use Rattle.std.specs.Prelude.{◌≡◌, ◌<◌, ◌++◌, length, drop, IfOk};
-ghost use Rattle.tree_model.specs.Automata.{TreeAutomaton, state_at, corner_at, root_at, rule_at, claim_at, offset as offset_at, outer as outer_of, rank as rank_of, corner_valence};
+ghost use Rattle.tree_model.specs.Automata.{TreeAutomaton, state_at, corner_at, root_at, rule_at, claim_at, offset as offset_at, outer as outer_of, corner_valence};
 
 use crate::corner::Corner;
 use crate::state::State;
@@ -8,15 +8,14 @@ use std::alloc::{AllocError, Global};
 use std::marker::Model;
 use tree_model::{Claim, Rule};
 
-/// An automaton: its states, its corner types, for each kind the state of a root of this kind, and
-/// the scale. Any tables are allowed: the numbers of states and corner types that they name may be
+/// An automaton: its states, its corner types, and for each kind the state of a root of this kind.
+/// Any tables are allowed: the numbers of states and corner types that they name may be
 /// out of range.
 #[derive(Debug, Drop)]
 pub struct Automaton {
     pub states: Vec<State>,
     pub corners: Vec<Corner>,
     pub roots: Vec<u32>,
-    pub scale: u32,
 }
 
 impl Model for Automaton {
@@ -28,7 +27,6 @@ impl Model for Automaton {
       states = a.states.items;
       corners = a.corners.items;
       roots = a.roots.items;
-      scale = a.scale;
     } };
 }
 
@@ -109,15 +107,6 @@ impl Automaton {
         self.corner(g).outer
     }
 
-    /// The rank of corner type `g`, below the number of corner types.
-    #[tactic(auto, using(std::proofs::lemmas::List::get_or_default), unfolding(tree_model::specs::Automata::rank))]
-    pub fn rank(&self, g: u32) -> u32
-        requires { g < length self.now.corners }
-        ensures { result ≡ rank_of self.now g }
-    {
-        self.corner(g).rank
-    }
-
     /// An equal automaton. Only want of memory refuses it.
     pub fn copy(&self, alloc: Global) -> Result<Automaton, AllocError>
         ensures equal { IfOk result (λ a. a ≡ self.now) }
@@ -126,7 +115,6 @@ impl Automaton {
             states: copy_states(alloc, &self.states)?,
             corners: copy_corners(alloc, &self.corners)?,
             roots: Vec::from_slice(alloc, &self.roots)?,
-            scale: self.scale,
         })
     }
 }
@@ -173,13 +161,11 @@ mod tests {
         let corner = Corner {
             offsets: Vec::from_slice(alloc, &[0, -1, 7])?,
             outer: claim,
-            rank: 8,
         };
         let automaton = Automaton {
             states: vec![in alloc; state]?,
             corners: vec![in alloc; corner]?,
             roots: Vec::from_slice(alloc, &[0, 0])?,
-            scale: 9,
         };
         let copy = automaton.copy(alloc)?;
         assert_eq!(rt; copy.rule(0, 1), Rule::Child(5));
@@ -188,9 +174,7 @@ mod tests {
         assert_eq!(rt; copy.state(0).kind, 3);
         assert_eq!(rt; copy.state(0).off, 4);
         assert_eq!(rt; copy.outer(0), claim);
-        assert_eq!(rt; copy.rank(0), 8);
         assert_eq!(rt; copy.root(1), 0);
-        assert_eq!(rt; copy.scale, 9);
         Ok(())
     }
 }

@@ -6,13 +6,12 @@ use std::marker::Model;
 use tree_model::Claim;
 
 /// A corner type: for each place the depth of its tile less that of the tile at place 0 (so the
-/// valence is the length of this list), the corner at the other end of the key edge with the place
-/// at which it has the tile that is at place 0 here, and a rank.
+/// valence is the length of this list), and the corner at the other end of the key edge with the
+/// place at which it has the tile that is at place 0 here.
 #[derive(Debug, Drop)]
 pub struct Corner {
     pub offsets: Vec<i8>,
     pub outer: Claim,
-    pub rank: u32,
 }
 
 impl Model for Corner {
@@ -20,7 +19,7 @@ impl Model for Corner {
 
     ghost Value = { CornerType };
 
-    ghost view = { λ g. record { offsets = g.offsets.items; outer = g.outer; rank = g.rank } };
+    ghost view = { λ g. record { offsets = g.offsets.items; outer = g.outer } };
 }
 
 impl Corner {
@@ -31,7 +30,6 @@ impl Corner {
         Ok(Corner {
             offsets: Vec::from_slice(alloc, &self.offsets)?,
             outer: self.outer,
-            rank: self.rank,
         })
     }
 }

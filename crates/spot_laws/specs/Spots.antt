@@ -77,10 +77,9 @@ abbrev pub rejoined : TreeSpot → (kept : ℕ) (sides states : List ℕ) (i : �
 rejoined s kept sides states i =
     record { name = take kept s.name ++ sides; path = take (suc kept) s.path ++ states; spin = i }
 
--- From each position at this side of a tile in this state, below a name in memory, fewer than 2^127
--- brackets are ever open on the walk along the contour in this direction.
-abbrev pub BracketsAreFew : TreeRules → (leftwards : Bool) → (state side : ℕ) → Type 0
-BracketsAreFew rules leftwards state side =
-    (k : ℕ) (p : Position) →
-    state_of rules.automaton k p.name ≡ state → p.side ≡ side → length p.name < 2 ^ 65 →
+-- Fewer than 2^127 brackets are ever open on the walk along the contour in this direction, from each
+-- side of a tile below a name in memory.
+abbrev pub BracketsAreFew : TreeRules → (leftwards : Bool) → Type 0
+BracketsAreFew rules leftwards =
+    (k : ℕ) (p : Position) → length p.name < 2 ^ 65 →
     most_open rules.kinds rules.automaton k leftwards p < 2 ^ 127

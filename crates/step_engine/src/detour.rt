@@ -170,7 +170,7 @@ impl Detour {
         requires { IsDetour r.now s.now self.now }
         ensures { most_open_there r.now s.now leftwards self.now < 2 ^ 127 }
     {
-        brackets_fit(r, self.tile, self.spin, leftwards);
+        brackets_fit(r, leftwards);
         let _level = s.level();
         let _entered = self.sides.len();
     }

@@ -11,8 +11,8 @@ use Rattle.structure_check.specs.Broken.{IsReadBefore, IsFirstBroken, PartHolds}
 use Rattle.structure_check.specs.Search.{HoldBelow, PartsBelow}
 use Rattle.structure_check.specs.declared.broken.Broken.{Broken}
 use Rattle.structure_check.specs.declared.sides.SideCondition.TheVariants.{Parents, ChildTypes, Valences, FirstPlaces, LastPlaces, OutersBefore, OutersBehind, ChildClaims}
-use Rattle.structure_check.specs.declared.corners.CornerCondition.TheVariants.{OneChange, SmallChange, GreaterOuter}
-use Rattle.structure_check.proofs.Places.{parts_hold, one_more_part, sides_hold, corners_hold}
+use Rattle.structure_check.specs.declared.corners.CornerCondition.TheVariants.{OneChange, SmallChange}
+use Rattle.structure_check.proofs.Places.{parts_hold, one_more_part, sides_hold, corners_hold, cycles_hold}
 
 module _ (kinds : List TileKind) (a : TreeAutomaton) where
   table_holds : IsClosedTable kinds a → HoldBelow kinds a 2
@@ -40,7 +40,7 @@ module _ (kinds : List TileKind) (a : TreeAutomaton) where
       let b10 : HoldBelow kinds a 10 = sides_hold kinds a ChildClaims b9 ok.c9 in
       let b11 : HoldBelow kinds a 11 = corners_hold kinds a OneChange ok.c10 b10 in
       let b12 : HoldBelow kinds a 12 = corners_hold kinds a SmallChange ok.c11 b11 in
-      corners_hold kinds a GreaterOuter ok.c12 b12
+      cycles_hold kinds a ok.c12 b12
 
   pub refutes : (c f s : ℕ) → IsFirstBroken kinds a c f s → IsAccepted kinds a → ⊥
   refutes c f s broken ok = broken.fails (all_hold ok c f s (omega (arith, broken.place.number.1)) broken.place)

@@ -3,7 +3,7 @@ use Rattle.std.proofs.Common.{◌≡◌, ℕ, suc, ◌<◌, ◌≤◌, inl, inr,
 use Rattle.std.proofs.Math.Nat.{eq-or-lt_of_le}
 use Rattle.tile_model.specs.Tessellations.{TileKind}
 use Rattle.tree_model.specs.Automata.{TreeAutomaton, side_count}
-use Rattle.tree_model.specs.Conditions.{IsClosedTable, IsAccepted, AtEverySide}
+use Rattle.tree_model.specs.Conditions.{IsClosedTable, IsAccepted, AtEverySide, HasFallingCycles}
 use Rattle.structure_check.specs.Broken.{IsReadAt, IsFirstBroken, Holds, PartHolds, part_size}
 use Rattle.structure_check.specs.Search.{HoldBelow, PartsBelow, StatesBelow, SideHolds, IsSideReady, side_number, IsPartReady, part_number, CornerHolds, HasCorners, corner_number}
 use Rattle.structure_check.specs.declared.table.TablePart.{TablePart}
@@ -11,7 +11,7 @@ use Rattle.structure_check.specs.declared.table.TablePart.TheVariants.{Limits, R
 use Rattle.structure_check.specs.declared.sides.SideCondition.{SideCondition}
 use Rattle.structure_check.specs.declared.sides.SideCondition.TheVariants.{Parents, ChildTypes, Valences, FirstPlaces, LastPlaces, OutersBefore, OutersBehind, ChildClaims}
 use Rattle.structure_check.specs.declared.corners.CornerCondition.{CornerCondition}
-use Rattle.structure_check.specs.declared.corners.CornerCondition.TheVariants.{OneChange, SmallChange, GreaterOuter}
+use Rattle.structure_check.specs.declared.corners.CornerCondition.TheVariants.{OneChange, SmallChange}
 
 module _ (kinds : List TileKind) (a : TreeAutomaton) where
   -- a place of each sort
@@ -101,24 +101,20 @@ module _ (kinds : List TileKind) (a : TreeAutomaton) where
   corner_low : (c : CornerCondition) → 10 ≤ corner_number c
   corner_low OneChange = omega arith
   corner_low SmallChange = omega arith
-  corner_low GreaterOuter = omega arith
 
   corner_high : (c : CornerCondition) → corner_number c ≤ 12
   corner_high OneChange = omega arith
   corner_high SmallChange = omega arith
-  corner_high GreaterOuter = omega arith
 
   holds_corner : (c : CornerCondition) (g : ℕ) → CornerHolds c a g → Holds kinds a (corner_number c) g 0
   unfolding Holds
   holds_corner OneChange g h = h
   holds_corner SmallChange g h = h
-  holds_corner GreaterOuter g h = h
 
   corner_holds : (c : CornerCondition) (g : ℕ) → Holds kinds a (corner_number c) g 0 → CornerHolds c a g
   unfolding Holds
   corner_holds OneChange g h = h
   corner_holds SmallChange g h = h
-  corner_holds GreaterOuter g h = h
 
   pub corners_hold : (c : CornerCondition) → ((g : ℕ) → g < length a.corners → CornerHolds c a g) → HoldBelow kinds a (corner_number c) → HoldBelow kinds a (suc (corner_number c))
   corners_hold c all below = hold_more (corner_number c) below (λ f s place.
@@ -189,6 +185,33 @@ module _ (kinds : List TileKind) (a : TreeAutomaton) where
         targets = λ s less. part 5 s (omega arith) less;
       }
 
+  -- the condition on cycles
+  falling : (g : ℕ) → Holds kinds a 12 g 0 → HasFallingCycles a g
+  unfolding Holds
+  falling g h = h
+
+  holds_falling : (g : ℕ) → HasFallingCycles a g → Holds kinds a 12 g 0
+  unfolding Holds
+  holds_falling g h = h
+
+  pub cycles_hold : ((g : ℕ) → g < length a.corners → HasFallingCycles a g) → HoldBelow kinds a 12 → HoldBelow kinds a 13
+  cycles_hold all below = hold_more 12 below (λ f s place.
+      let at : (f < length a.corners) × (s ≡ 0) = place.corner (omega arith) in
+      subst (λ (x : ℕ). Holds kinds a 12 f x) (sym at.1) (holds_falling f (all f at.0)))
+
+  pub cycle_fails : (g : ℕ) → g < length a.corners → ¬ (HasFallingCycles a g) → ((f : ℕ) → f < g → HasFallingCycles a f) → HoldBelow kinds a 12 → IsFirstBroken kinds a 12 g 0
+  cycle_fails g corner fails falls below = record {
+    place = corner_place 12 g (omega arith) (omega arith) corner;
+    fails = λ h. fails (falling g h);
+    places_before = λ f s place before.
+        let at : (f < length a.corners) × (s ≡ 0) = place.corner (omega arith) in
+        elim (before.other (omega arith)) [
+          | inl less ↦ subst (λ (x : ℕ). Holds kinds a 12 f x) (sym at.1) (holds_falling f (falls f less))
+          | inr same ↦ absurd (omega (arith, same.1))
+        ];
+    conditions_before = below;
+  }
+
   at_sides : (c : SideCondition) (n : ℕ) → side_number c < n → HoldBelow kinds a n → AtEverySide kinds a (SideHolds c kinds a)
   at_sides c n less below = λ s i state side. side_holds c s i (below (side_number c) s i less (side_place (side_number c) s i (side_low c) (side_high c) state side))
 
@@ -228,7 +251,7 @@ module _ (kinds : List TileKind) (a : TreeAutomaton) where
   pub corners_ready : (c : ℕ) → 2 ≤ c → HoldBelow kinds a c → HasCorners a
   corners_ready c enough below =
       let table : IsClosedTable kinds a = closed c enough below in
-      record { scale = table.limits.scale.1; count = table.limits.corners.1; offsets = table.offsets; outer = table.outer }
+      record { count = table.limits.corners.1; offsets = table.offsets; outer = table.outer }
 
   pub accepted : HoldBelow kinds a 13 → IsAccepted kinds a
   accepted below = record {
@@ -243,5 +266,5 @@ module _ (kinds : List TileKind) (a : TreeAutomaton) where
     c9 = at_sides ChildClaims 13 (omega arith) below;
     c10 = at_corners OneChange 13 (omega arith) below;
     c11 = at_corners SmallChange 13 (omega arith) below;
-    c12 = at_corners GreaterOuter 13 (omega arith) below;
+    c12 = λ g corner. falling g (below 12 g 0 (omega arith) (corner_place 12 g (omega arith) (omega arith) corner));
   }

@@ -3,7 +3,7 @@
 use Rattle.std.specs.Prelude.{◌≡◌, ℕ, ◌<◌, ◌≤◌, ◌⊎◌, List, length, nat_eq, nat_lt, if◌then◌else◌, MatchBool, ⊤}
 use Rattle.tile_model.specs.Tessellations.{TileKind}
 use Rattle.tree_model.specs.Automata.{TreeAutomaton, side_count}
-use Rattle.tree_model.specs.Conditions.{HasLimits, HasRootState, HasOffsets, HasOuter, HasTables, HasTargets, HasParentRule, HasChildType, HasClaimValence, HasFirstPlace, HasLastPlace, HasOuterBefore, HasOuterBehind, KeepsClaims, HasOneChange, HasSmallChange, HasGreaterOuter}
+use Rattle.tree_model.specs.Conditions.{HasLimits, HasRootState, HasOffsets, HasOuter, HasTables, HasTargets, HasParentRule, HasChildType, HasClaimValence, HasFirstPlace, HasLastPlace, HasOuterBefore, HasOuterBehind, KeepsClaims, HasOneChange, HasSmallChange, HasFallingCycles}
 
 -- C1 has six parts. The number of indices at which a part is read: part 0 at 0 alone, part 1 at
 -- each kind, parts 2 and 3 at each corner type, parts 4 and 5 at each state.
@@ -38,7 +38,7 @@ Holds kinds a c first second =
     MatchBool (nat_eq c 9) (KeepsClaims kinds a first second) (
     MatchBool (nat_eq c 10) (HasOneChange a first) (
     MatchBool (nat_eq c 11) (HasSmallChange a first) (
-    MatchBool (nat_eq c 12) (HasGreaterOuter a first) ⊤)))))))))))
+    MatchBool (nat_eq c 12) (HasFallingCycles a first) ⊤)))))))))))
 
 -- (first, second) is a place at which condition c is read: of C1 an index and a part, of C2 to C9 a
 -- state and a side or claim of it, of C10 to C12 a corner type and 0.

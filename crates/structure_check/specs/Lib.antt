@@ -1,3 +1,4 @@
 pub mod Broken
 pub mod Rules
 pub mod Search
+pub mod Cycles

@@ -5,14 +5,14 @@ use Rattle.tile_model.specs.Tessellations.{TileKind}
 use Rattle.tree_model.specs.declared.Rule.TheVariants.{Child}
 use Rattle.tree_model.specs.declared.Claim.{Claim}
 use Rattle.tree_model.specs.Automata.{TreeAutomaton, side_count, rule_at, claim_at, corner_valence}
-use Rattle.tree_model.specs.Conditions.{AtEverySide, AtEveryCorner, HasLimits, HasOffsets, HasOuter, HasTables, HasParentRule, HasChildType, HasClaimValence, HasFirstPlace, HasLastPlace, HasOuterBefore, HasOuterBehind, KeepsClaims, HasOneChange, HasSmallChange, HasGreaterOuter}
+use Rattle.tree_model.specs.Conditions.{AtEverySide, AtEveryCorner, HasLimits, HasOffsets, HasOuter, HasTables, HasParentRule, HasChildType, HasClaimValence, HasFirstPlace, HasLastPlace, HasOuterBefore, HasOuterBehind, KeepsClaims, HasOneChange, HasSmallChange}
 use Rattle.structure_check.specs.Broken.{IsReadAt, Holds, PartHolds, part_size}
 use Rattle.structure_check.specs.declared.table.TablePart.{TablePart}
 use Rattle.structure_check.specs.declared.table.TablePart.TheVariants.{Limits, Roots, Offsets, Outers, Sizes, Targets}
 use Rattle.structure_check.specs.declared.sides.SideCondition.{SideCondition}
 use Rattle.structure_check.specs.declared.sides.SideCondition.TheVariants.{Parents, ChildTypes, Valences, FirstPlaces, LastPlaces, OutersBefore, OutersBehind, ChildClaims}
 use Rattle.structure_check.specs.declared.corners.CornerCondition.{CornerCondition}
-use Rattle.structure_check.specs.declared.corners.CornerCondition.TheVariants.{OneChange, SmallChange, GreaterOuter}
+use Rattle.structure_check.specs.declared.corners.CornerCondition.TheVariants.{OneChange, SmallChange}
 
 -- all conditions with numbers below c hold everywhere
 abbrev pub HoldBelow : List TileKind → TreeAutomaton → ℕ → Type 0
@@ -91,7 +91,6 @@ StatesBelow c kinds a n = (s i : ℕ) → s < n → i < side_count kinds a s →
 
 -- what the checks of corner types stand on
 pub record HasCorners (a : TreeAutomaton) : Type 0 where
-  pub scale : a.scale ≤ 65536
   pub count : length a.corners ≤ 20000
   pub offsets : AtEveryCorner a (HasOffsets a)
   pub outer : AtEveryCorner a (HasOuter a)
@@ -99,13 +98,11 @@ pub record HasCorners (a : TreeAutomaton) : Type 0 where
 abbrev pub corner_number : CornerCondition → ℕ
 corner_number OneChange = 10
 corner_number SmallChange = 11
-corner_number GreaterOuter = 12
 
 -- a condition on a corner type holds of it
 abbrev pub CornerHolds : CornerCondition → TreeAutomaton → ℕ → Type 0
 CornerHolds OneChange a g = HasOneChange a g
 CornerHolds SmallChange a g = HasSmallChange a g
-CornerHolds GreaterOuter a g = HasGreaterOuter a g
 
 -- it holds of the corner types below n
 abbrev pub CornersBelow : CornerCondition → TreeAutomaton → ℕ → Type 0

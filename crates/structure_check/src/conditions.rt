@@ -5,7 +5,7 @@ ghost use Rattle.structure_check.specs.Broken.{IsFirstBroken};
 ghost use Rattle.structure_check.specs.Search.{HoldBelow};
 
 use crate::broken::Broken;
-use crate::corners::{CornerCondition, check_corners};
+use crate::corners::{CornerCondition, check_corners, check_cycles};
 use crate::sides::{SideCondition, check_sides};
 use crate::table::{TablePart, check_part};
 use rules_data::Automaton;
@@ -41,6 +41,6 @@ pub fn check_all(tess: &Tessellation, a: &Automaton) -> Result<(), Broken>
     check_sides(SideCondition::ChildClaims, tess, a)?;
     check_corners(CornerCondition::OneChange, a)?;
     check_corners(CornerCondition::SmallChange, a)?;
-    check_corners(CornerCondition::GreaterOuter, a)?;
+    check_cycles(a)?;
     Ok(())
 }

@@ -1,12 +1,13 @@
 // The conditions on corner types, which make the crossing by brackets end.
-ghost use Rattle.std.specs.Prelude.{◌≡◌, ◌-◌, ◌<◌, ◌≤◌, ℤ, pos, ◌+ℤ◌, ◌-ℤ◌, ◌*ℤ◌, ◌<ℤ◌, ◌↔◌, ℕ, suc, List, length, IsTrue, OnOk, IfErr};
+ghost use Rattle.std.specs.Prelude.{◌≡◌, ◌-◌, ◌<◌, ◌≤◌, ◌-ℤ◌, ◌↔◌, ℕ, suc, List, length, IsTrue, OnOk, IfErr};
 ghost use Rattle.tile_model.specs.Tessellations.{TileKind};
 ghost use Rattle.tree_model.specs.Automata.{offset, corner_valence};
-ghost use Rattle.tree_model.specs.Conditions.{HasOneChange, HasSmallChange, HasGreaterOuter};
+ghost use Rattle.tree_model.specs.Conditions.{HasOneChange, HasSmallChange};
 ghost use Rattle.structure_check.specs.Broken.{IsFirstBroken};
 ghost use Rattle.structure_check.specs.Search.{HoldBelow, HasCorners, CornerHolds, corner_number};
 
 use crate::broken::Broken;
+use crate::cycles::least_rising;
 use rules_data::Automaton;
 
 /// A condition that is read at each corner type.
@@ -14,7 +15,6 @@ use rules_data::Automaton;
 pub enum CornerCondition {
     OneChange,
     SmallChange,
-    GreaterOuter,
 }
 
 /// The number of the condition.
@@ -24,7 +24,6 @@ fn number(condition: CornerCondition) -> u8
     match condition {
         CornerCondition::OneChange => 10,
         CornerCondition::SmallChange => 11,
-        CornerCondition::GreaterOuter => 12,
     }
 }
 
@@ -45,14 +44,6 @@ fn difference(a: &Automaton, g: u32, t: u8, u: u8) -> i16
     ensures { result ≡ offset a.now g t -ℤ offset a.now g u }
 {
     a.offset(g, t) as i16 - a.offset(g, u) as i16
-}
-
-/// A rank plus the scale times an offset, without loss.
-fn raised(rank: u32, scale: u32, offset: i8) -> i64
-    requires { scale ≤ 65536 }
-    ensures { result ≡ pos rank +ℤ (pos scale *ℤ offset) }
-{
-    rank as i64 + scale as i64 * offset as i64
 }
 
 /// Whether the depth changes across the key edge by as much seen from the outer corner as seen from
@@ -77,18 +68,6 @@ fn has_small_change(a: &Automaton, g: u32) -> bool
     -1 <= change && change <= 1
 }
 
-/// Whether the rank of the outer corner is greater by more than the scale times the offset at which
-/// it is entered.
-fn has_greater_outer(a: &Automaton, g: u32) -> bool
-    requires corners { HasCorners a.now }
-    requires corner { g < length a.now.corners }
-    ensures { IsTrue result ↔ HasGreaterOuter a.now g }
-{
-    let outer = a.outer(g);
-    let entered = a.offset(outer.corner, outer.place);
-    raised(a.rank(g), a.scale, entered) < a.rank(outer.corner) as i64
-}
-
 /// Whether the condition holds of a corner type.
 fn holds(condition: CornerCondition, a: &Automaton, g: u32) -> bool
     requires corners { HasCorners a.now }
@@ -98,7 +77,6 @@ fn holds(condition: CornerCondition, a: &Automaton, g: u32) -> bool
     match condition {
         CornerCondition::OneChange => has_one_change(a, g),
         CornerCondition::SmallChange => has_small_change(a, g),
-        CornerCondition::GreaterOuter => has_greater_outer(a, g),
     }
 }
 
@@ -122,4 +100,22 @@ pub fn check_corners(condition: CornerCondition, a: &Automaton) -> Result<(), Br
         }
     }
     Ok(())
+}
+
+/// Looks for the least corner type on a cycle of outer links that does not fall.
+pub fn check_cycles(a: &Automaton) -> Result<(), Broken>
+    requires { HasCorners a.now }
+    ensures ok { OnOk result ((kinds : List TileKind) → HoldBelow kinds a.now 12
+        → HoldBelow kinds a.now 13) }
+    ensures err { IfErr result (λ b. (kinds : List TileKind) → HoldBelow kinds a.now 12
+        → IsFirstBroken kinds a.now b.condition b.first b.second) }
+{
+    match least_rising(a) {
+        None => Ok(()),
+        Some(first) => Err(Broken {
+            condition: 12,
+            first,
+            second: 0,
+        }),
+    }
 }

@@ -5,6 +5,7 @@
 mod broken;
 mod conditions;
 mod corners;
+mod cycles;
 mod reading;
 mod roots;
 mod rules;

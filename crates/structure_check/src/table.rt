@@ -48,14 +48,12 @@ fn size(part: TablePart, tess: &Tessellation, a: &Automaton) -> u32
     }
 }
 
-/// Whether the numbers of states, corner types and roots and the scale are within their limits.
+/// Whether the numbers of states, corner types and roots are within their limits.
 fn has_limits(tess: &Tessellation, a: &Automaton) -> bool
     ensures { IsTrue result ↔ HasLimits tess.now a.now }
 {
-    1 <= a.scale
-        && a.scale <= 65_536
-        && 1 <= a.states.len()
-        && a.states.len() <= 20_000
+    1 <= a.states.len()
+        && a.states.len() <= 100_000
         && 1 <= a.corners.len()
         && a.corners.len() <= 20_000
         && a.roots.len() == tess.kinds() as usize

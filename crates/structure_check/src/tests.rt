@@ -41,16 +41,10 @@ fn state(
     })
 }
 
-fn corner(
-    alloc: Global,
-    offsets: &[i8],
-    (corner, place): (u32, u8),
-    rank: u32,
-) -> Result<Corner, AllocError> {
+fn corner(alloc: Global, offsets: &[i8], (corner, place): (u32, u8)) -> Result<Corner, AllocError> {
     Ok(Corner {
         offsets: Vec::from_slice(alloc, offsets)?,
         outer: Claim { corner, place },
-        rank,
     })
 }
 
@@ -77,15 +71,14 @@ fn pentagons(alloc: Global, rule: Rule, corners: Vec<Corner>) -> Result<Automato
         states,
         corners,
         roots: vec![in alloc; 0]?,
-        scale: 1,
     })
 }
 
-// Three tiles at each corner, the first corner type of this rank.
-fn threes(alloc: Global, rank: u32) -> Result<Vec<Corner>, AllocError> {
+// Three tiles at each corner.
+fn threes(alloc: Global) -> Result<Vec<Corner>, AllocError> {
     let mut corners = Vec::new(alloc);
-    corners.push(corner(alloc, &[0, -1, 0], (1, 1), rank)?)?;
-    corners.push(corner(alloc, &[0, -1, -1], (0, 0), 0)?)?;
+    corners.push(corner(alloc, &[0, -1, 0], (1, 1))?)?;
+    corners.push(corner(alloc, &[0, -1, -1], (0, 0))?)?;
     Ok(corners)
 }
 
@@ -113,9 +106,9 @@ fn finds_the_first_broken_place(rt: HostRuntime) -> Result<(), Fail> {
     ];
     for (valence, place, rule, more, want) in cases {
         let mut corners = Vec::new(alloc);
-        corners.push(corner(alloc, &[0, -1, -2, -1], (0, place), 0)?)?;
+        corners.push(corner(alloc, &[0, -1, -2, -1], (0, place))?)?;
         if more {
-            corners.push(corner(alloc, &[0, 0, -1], (0, 1), 0)?)?;
+            corners.push(corner(alloc, &[0, 0, -1], (0, 1))?)?;
         }
         let a = pentagons(alloc, rule, corners)?;
         let kinds = vec![in alloc; kind(alloc, 5, &[(0, 0)], &[valence])?]?;
@@ -181,33 +174,47 @@ fn heptagons_and_hexagons(alloc: Global) -> Result<Vec<State>, AllocError> {
     Ok(states)
 }
 
-// Rules with three tiles at each corner, of which the first corner type has this rank.
+// Rules with three tiles at each corner.
 fn three_at_a_corner(
     alloc: Global,
     states: Vec<State>,
     roots: &[u32],
-    rank: u32,
 ) -> Result<Automaton, AllocError> {
     Ok(Automaton {
         states,
-        corners: threes(alloc, rank)?,
+        corners: threes(alloc)?,
         roots: Vec::from_slice(alloc, roots)?,
-        scale: 2,
     })
+}
+
+// A corner type that no claim names, and whose links lead along a cycle that does not fall.
+#[test]
+fn finds_cycles_that_do_not_fall(rt: HostRuntime) -> Result<(), Fail> {
+    let alloc = rt.alloc();
+    for outer in [(1, 0), (1, 1)] {
+        let mut corners = Vec::new(alloc);
+        corners.push(corner(alloc, &[0, -1, -2, -1], (0, 1))?)?;
+        corners.push(corner(alloc, &[0, 0, 0], outer)?)?;
+        let a = pentagons(alloc, Child(1), corners)?;
+        let kinds = vec![in alloc; kind(alloc, 5, &[(0, 0)], &[4])?]?;
+        let Ok(tess) = Tessellation::make(kinds) else {
+            panic!(rt; "no tessellation");
+        };
+        assert_eq!(rt; found(tess, a), Some((12, 1, 0)));
+    }
+    Ok(())
 }
 
 #[test]
 fn accepts_three_at_a_corner(rt: HostRuntime) -> Result<(), Fail> {
     let alloc = rt.alloc();
-    for (rank, want) in [(1, None), (0, Some((12, 1, 0)))] {
-        let a = three_at_a_corner(alloc, heptagons(alloc)?, &[0], rank)?;
-        let kinds = vec![in alloc; kind(alloc, 7, &[(0, 0)], &[3])?]?;
-        let Ok(tess) = Tessellation::make(kinds) else {
-            panic!(rt; "no tessellation");
-        };
-        assert_eq!(rt; found(tess, a), want);
-    }
-    let a = three_at_a_corner(alloc, heptagons_and_hexagons(alloc)?, &[0, 1], 1)?;
+    let a = three_at_a_corner(alloc, heptagons(alloc)?, &[0])?;
+    let kinds = vec![in alloc; kind(alloc, 7, &[(0, 0)], &[3])?]?;
+    let Ok(tess) = Tessellation::make(kinds) else {
+        panic!(rt; "no tessellation");
+    };
+    assert_eq!(rt; found(tess, a), None);
+    let a = three_at_a_corner(alloc, heptagons_and_hexagons(alloc)?, &[0, 1])?;
     let mut kinds = vec![in alloc; kind(alloc, 7, &[(1, 0)], &[3])?]?;
     kinds.push(kind(alloc, 6, &[(0, 0), (1, 1)], &[3, 3])?)?;
     let Ok(tess) = Tessellation::make(kinds) else {

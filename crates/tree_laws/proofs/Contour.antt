@@ -1,9 +1,13 @@
 -- The walk along the contour, from each side outside the tree, stops at the side that lies across, and its counter fits a machine number.
-use Rattle.std.proofs.Common.{◌≡◌, ℕ, suc, ◌^◌, ◌<◌, Bool, true, false, List, length, refl, arith}
+use Rattle.std.proofs.Common.{◌≡◌, ℕ, suc, ◌^◌, ◌<◌, Bool, true, false, List, length, refl, arith, pos, ◌≤ℤ◌}
+use Rattle.std.proofs.lemmas.Int.{ints}
 use Rattle.std.proofs.lemmas.Nat.{mul-le}
 use Rattle.tile_model.specs.Tessellations.{TileKind}
 use Rattle.tile_model.specs.Validity.{IsValid}
-use Rattle.tree_model.specs.Automata.{TreeAutomaton, rank}
+use Rattle.tree_model.specs.Automata.{TreeAutomaton, outer}
+use Rattle.tree_model.specs.OuterLinks.{entered}
+use Rattle.tree_laws.specs.Ranks.{corner_count}
+use Rattle.tree_laws.proofs.RankSizes.{rank_small}
 use Rattle.tree_model.specs.Conditions.{IsAccepted}
 use Rattle.tree_model.specs.Contours.{Mark, Tree, Opens, Closes, mirrored}
 use Rattle.tree_model.specs.Positions.{Position, IsPosition, mark, turn_right, from_left, from_right}
@@ -38,8 +42,15 @@ module _ (kinds : List TileKind) (a : TreeAutomaton) (k : ℕ) (valid : IsValid 
   inner_known false p h = corner_known kinds a k valid ok known (turn_right kinds a k p) (right_position kinds a k p h)
 
 module _ (kinds : List TileKind) (a : TreeAutomaton) (k : ℕ) (ok : IsAccepted kinds a) where
-  -- The counter fits, where ranks do and the name is that of a tile below a name in memory.
-  pub most_open_fits : (d : Bool) (p : Position) → rank a (inner_corner kinds a k d p) < 2 ^ 32 → length p.name < 2 ^ 65 → most_open kinds a k d p < 2 ^ 127
-  most_open_fits d p small deep =
-      let m = mul-le a.scale (suc (length p.name)) 65536 (2 ^ 65) ok.c1.limits.scale.1 deep in
+  entered_low : (g : ℕ) → g < length a.corners → entered a g ≤ℤ pos 64
+  entered_low g l =
+      let o = ok.c1.outer g l in
+      let s = (ok.c1.offsets (outer a g).corner o.0).small (outer a g).place (omega (arith, o.1)) in
+      omega (arith, ints, s)
+
+  -- The counter fits, where the name is that of a tile below a name in memory.
+  pub most_open_fits : (d : Bool) (p : Position) → length p.name < 2 ^ 65 → most_open kinds a k d p < 2 ^ 127
+  most_open_fits d p deep =
+      let small = rank_small a ok.c1.limits.corners.1 (λ g l. (ok.c1.outer g l).0) entered_low (inner_corner kinds a k d p) in
+      let m = mul-le (corner_count a) (suc (length p.name)) 20000 (2 ^ 65) ok.c1.limits.corners.1 deep in
       omega (arith, m, small)

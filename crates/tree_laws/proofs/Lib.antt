@@ -21,3 +21,6 @@ pub mod Shortest
 pub mod Between
 pub mod RingTiles
 pub mod Stopping
+pub mod Cuts
+pub mod Ranks
+pub mod RankSizes

@@ -5,7 +5,7 @@ use Rattle.tile_model.specs.Tessellations.{TileKind, left, cross, valence, aroun
 use Rattle.tile_model.specs.Validity.{IsValid}
 use Rattle.tile_model.proofs.Types.{cross_cross}
 use Rattle.tree_model.specs.declared.Claim.{Claim}
-use Rattle.tree_model.specs.Automata.{TreeAutomaton, claim_at, offset, corner_valence, outer, rank, side_count, next, previous, further}
+use Rattle.tree_model.specs.Automata.{TreeAutomaton, claim_at, offset, corner_valence, outer, side_count, next, previous, further}
 use Rattle.tree_model.specs.Conditions.{IsAccepted}
 use Rattle.tree_model.specs.Contours.{Tree, Opens, Closes}
 use Rattle.tree_model.specs.Names.{child_of, state_of}
@@ -13,6 +13,8 @@ use Rattle.tree_model.specs.Positions.{Position, IsPosition, mark_of_rule, turn_
 use Rattle.tree_model.proofs.Sides.{next_below, next_zero, previous_next}
 use Rattle.tree_model.proofs.Positions.{right_left, left_right, left_position, right_position, IsDown, IsTreeAcross, down_state, down_depth, state_known, up_position, hop_across, hop_position, hop_tree, hop_hop, is_left, is_right, side_type, turned_type, tree_type}
 use Rattle.tree_laws.specs.Plane.{Land, IsPlane}
+use Rattle.tree_laws.specs.Ranks.{derived_rank, corner_count}
+use Rattle.tree_laws.proofs.Ranks.{grows}
 use Rattle.tree_laws.proofs.Types.{AreTyped, iterated}
 
 -- the land of the positions in the tree of kind k
@@ -29,8 +31,8 @@ tree_land kinds a k = record {
   offset = offset a;
   outer = λ g. (outer a g).corner;
   entry = λ g. (outer a g).place;
-  rank = rank a;
-  scale = a.scale;
+  rank = derived_rank a;
+  scale = corner_count a;
 }
 
 down_offset : (dr dq : ℕ) (h0 h1 : ℤ) → dr ≡ suc dq → h1 ≡ h0 +ℤ pos 1 → pos dr +ℤ h0 ≡ pos dq +ℤ h1
@@ -165,7 +167,7 @@ module _ (kinds : List TileKind) (a : TreeAutomaton) (k : ℕ) (valid : IsValid 
     one_change = λ p h. change_of (C p).corner (corner_known p h);
     falls_little = λ p h. (ok.c11 (C p).corner (corner_known p h)).0;
     rises_little = λ p h. (ok.c11 (C p).corner (corner_known p h)).1;
-    ranked = λ p h. ok.c12 (C p).corner (corner_known p h);
+    ranked = λ p h. grows a (λ g l. (ok.c1.outer g l).0) ok.c12 (C p).corner (corner_known p h);
   }
 
   iterated_around : (n : ℕ) (d : ℕ × ℕ) → iterated (ℕ × ℕ) (λ t. cross kinds (left kinds t)) n d ≡ around_times kinds n d

@@ -2,7 +2,8 @@
 -- way, and how many brackets are open at most.
 use Rattle.std.specs.Prelude.{ℕ, suc, ◌+◌, ◌*◌, ◌≤◌, Bool, true, false, List, length}
 use Rattle.tile_model.specs.Tessellations.{TileKind}
-use Rattle.tree_model.specs.Automata.{TreeAutomaton, rank}
+use Rattle.tree_model.specs.Automata.{TreeAutomaton}
+use Rattle.tree_laws.specs.Ranks.{derived_rank, corner_count}
 use Rattle.tree_model.specs.Contours.{Mark, mirrored}
 use Rattle.tree_model.specs.Positions.{Position, IsPosition, turn_left, turn_right, claim_of, hop, mark, LiesAcross}
 use Rattle.tree_laws.specs.Machine.{Halts, Moved, most_moves, moves_left}
@@ -26,7 +27,7 @@ module _ (kinds : List TileKind) (a : TreeAutomaton) (k : ℕ) where
   -- The most brackets that are open at once on the walk from a side: one more than the weight of
   -- that corner is, at this depth, at most.
   abbrev pub most_open : Bool → Position → ℕ
-  most_open d p = suc (a.scale * suc (length p.name) + rank a (inner_corner d p))
+  most_open d p = suc (corner_count a * suc (length p.name) + derived_rank a (inner_corner d p))
 
   -- From p, about to turn, with c brackets open, the walk stops at q after n moves and one turn,
   -- and its counter is never above most.

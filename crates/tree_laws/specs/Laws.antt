@@ -9,12 +9,13 @@ use Rattle.tile_model.specs.Walks.{type_of, crossings, inverse, times}
 use Rattle.tile_model.specs.Relation.{AreRelated, AreAtSameTile, IsDistance}
 use Rattle.tile_model.specs.TileCounts.{LieAway}
 use Rattle.tree_model.specs.declared.Rule.TheVariants.{Left, Right}
-use Rattle.tree_model.specs.Automata.{TreeAutomaton, state_at, offset, rank}
+use Rattle.tree_model.specs.Automata.{TreeAutomaton, state_at, offset}
 use Rattle.tree_model.specs.Conditions.{IsAccepted}
 use Rattle.tree_model.specs.Contours.{Tree, Opens}
 use Rattle.tree_model.specs.Names.{IsName, IsRing, state_of, word}
 use Rattle.tree_model.specs.Positions.{Position, IsPosition, root, turn_left, rule_of, claim_of, type_of_side, hop, mark, MatchesLeftwards, LiesAcross, Leads}
 use Rattle.tree_model.specs.Places.{IsPlace}
+use Rattle.tree_laws.specs.Ranks.{derived_rank, corner_count}
 use Rattle.tree_laws.specs.Directions.{mark_towards, Arrives}
 
 -- of the tree of each kind, for all rules that are accepted
@@ -99,10 +100,10 @@ module _ (kinds : List TileKind) (a : TreeAutomaton) (k : ℕ) where
   first_depth p =
       pos (length p.name) -ℤ offset a (claim_of kinds a k p).corner (claim_of kinds a k p).place
 
-  -- The weight of the corner at the left end of a side: the scale times the depth of its first
-  -- tile, and its rank.
+  -- The weight of the corner at the left end of a side: the number of corner types times the depth
+  -- of its first tile, and the rank of its type.
   abbrev pub weight : Position → ℤ
-  weight p = (pos a.scale *ℤ first_depth p) +ℤ pos (rank a (claim_of kinds a k p).corner)
+  weight p = (pos (corner_count a) *ℤ first_depth p) +ℤ pos (derived_rank a (claim_of kinds a k p).corner)
 
   -- It stays the same round the corner, across sides of the tree.
   abbrev pub WeightStays : Type 0
@@ -120,12 +121,12 @@ module _ (kinds : List TileKind) (a : TreeAutomaton) (k : ℕ) where
         (p : Position) → There p → rule_of kinds a k (turn_left kinds a k p) ≡ Right →
         weight p <ℤ weight (turn_left kinds a k p)
 
-  -- It is at least 0 at a Left side, and at least minus the scale before a Right side.
+  -- It is at least 0 at a Left side, and at least minus the number of corner types before a Right side.
   pub record WeightIsBounded : Type 0 where
     pub left : (p : Position) → There p → rule_of kinds a k p ≡ Left → pos 0 ≤ℤ weight p
     pub right :
         (p : Position) → There p → rule_of kinds a k (turn_left kinds a k p) ≡ Right →
-        (pos 0 -ℤ pos a.scale) ≤ℤ weight p
+        (pos 0 -ℤ pos (corner_count a)) ≤ℤ weight p
 
   -- Each walk has exactly one place, the position to which it leads.
   pub record HasOnePlace (u : List Letter) : Type 0 where

@@ -1,3 +1,4 @@
+pub mod Ranks
 pub mod Plane
 pub mod Machine
 pub mod Directions

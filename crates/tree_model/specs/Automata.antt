@@ -15,20 +15,16 @@ pub record TreeState : Type 0 where
   pub claims : List Claim
 
 -- A corner type: for each place the depth of its tile less that of the tile at place 0, the corner
--- at the other end of the key edge with the place at which it has the tile that is at place 0 here,
--- and a rank.
+-- at the other end of the key edge with the place at which it has the tile that is at place 0 here.
 pub record CornerType : Type 0 where
   pub offsets : List ℤ
   pub outer : Claim
-  pub rank : ℕ
 
--- An automaton: its states, its corner types, for each kind the state of a root of this kind, and
--- the scale.
+-- An automaton: its states, its corner types, and for each kind the state of a root of this kind.
 pub record TreeAutomaton : Type 0 where
   pub states : List TreeState
   pub corners : List CornerType
   pub roots : List ℕ
-  pub scale : ℕ
 
 abbrev pub no_claim : Claim
 no_claim = record { corner = 0; place = 0 }
@@ -37,7 +33,7 @@ abbrev pub no_state : TreeState
 no_state = record { kind = 0; off = 0; rules = []; claims = [] }
 
 abbrev pub no_corner : CornerType
-no_corner = record { offsets = []; outer = record { corner = 0; place = 0 }; rank = 0 }
+no_corner = record { offsets = []; outer = record { corner = 0; place = 0 } }
 
 unfoldable pub state_at : TreeAutomaton → ℕ → TreeState
 state_at a s = slice_index_or a.states s no_state
@@ -67,9 +63,6 @@ corner_valence a g = length (corner_at a g).offsets
 
 unfoldable pub outer : TreeAutomaton → ℕ → Claim
 outer a g = (corner_at a g).outer
-
-unfoldable pub rank : TreeAutomaton → ℕ → ℕ
-rank a g = (corner_at a g).rank
 
 -- the number of sides of a tile in state s
 unfoldable pub side_count : List TileKind → TreeAutomaton → ℕ → ℕ

@@ -1,20 +1,19 @@
 -- The twelve conditions on an automaton over a tessellation. Each is read at one place, and each is
 -- asked of all places: of every state, side, claim, corner type and root, whether the tree reaches
 -- it or not. A condition is read where those before it hold.
-use Rattle.std.specs.Prelude.{◌≡◌, ℕ, suc, ◌-◌, ◌<◌, ◌≤◌, ◌↔◌, List, length, Contains, pos, negsuc, ◌+ℤ◌, ◌-ℤ◌, ◌*ℤ◌, ◌<ℤ◌, ◌≤ℤ◌, nat_abs}
+use Rattle.std.specs.Prelude.{◌≡◌, ℕ, suc, ◌-◌, ◌<◌, ◌≤◌, ◌↔◌, List, length, Contains, pos, negsuc, ◌+ℤ◌, ◌-ℤ◌, ◌<ℤ◌, ◌≤ℤ◌, nat_abs}
 use Rattle.tile_model.specs.Tessellations.{TileKind, kind_at, cross, valence}
 use Rattle.tree_model.specs.declared.Rule.TheVariants.{Parent, Child, Left, Right}
-use Rattle.tree_model.specs.Automata.{TreeAutomaton, state_at, root_at, rule_at, claim_at, offset, corner_valence, outer, rank, side_count, type_at, next, previous, further}
+use Rattle.tree_model.specs.OuterLinks.{led, entered_sum}
+use Rattle.tree_model.specs.Automata.{TreeAutomaton, state_at, root_at, rule_at, claim_at, offset, corner_valence, outer, side_count, type_at, next, previous, further}
 
 -- s is the root state of some kind
 abbrev pub IsRoot : TreeAutomaton → ℕ → Type 0
 IsRoot a s = Contains a.roots s
 
--- C1, part 0: the scale is 1 to 65,536, there are 1 to 20,000 states and 1 to 20,000 corner types,
--- and as many roots as kinds
+-- C1, part 0: there are 1 to 100,000 states and 1 to 20,000 corner types, and as many roots as kinds
 pub record HasLimits (kinds : List TileKind) (a : TreeAutomaton) : Type 0 where
-  pub scale : (1 ≤ a.scale) × (a.scale ≤ 65536)
-  pub states : (1 ≤ length a.states) × (length a.states ≤ 20000)
+  pub states : (1 ≤ length a.states) × (length a.states ≤ 100000)
   pub corners : (1 ≤ length a.corners) × (length a.corners ≤ 20000)
   pub roots : length a.roots ≡ length kinds
 
@@ -134,12 +133,10 @@ HasSmallChange a g =
     (negsuc 0 ≤ℤ offset a g (corner_valence a g - 1))
     × (offset a g (corner_valence a g - 1) ≤ℤ pos 1)
 
--- C12, of a corner type: the rank grows towards the outer one, by more than the scale times the
--- offset at which it is entered
-abbrev pub HasGreaterOuter : TreeAutomaton → ℕ → Type 0
-HasGreaterOuter a g =
-    (pos (rank a g) +ℤ (pos a.scale *ℤ offset a (outer a g).corner (outer a g).place))
-    <ℤ pos (rank a (outer a g).corner)
+-- C12, of a corner type: along each cycle of outer links that leads from it back to it, the offsets
+-- at which corner types are entered sum below 0
+abbrev pub HasFallingCycles : TreeAutomaton → ℕ → Type 0
+HasFallingCycles a g = (n : ℕ) → led a (suc n) g ≡ g → entered_sum a (suc n) g <ℤ pos 0
 
 -- of every side, or every claim, of every state
 abbrev pub AtEverySide : List TileKind → TreeAutomaton → (ℕ → ℕ → Type 0) → Type 0
@@ -162,4 +159,4 @@ pub record IsAccepted (kinds : List TileKind) (a : TreeAutomaton) : Type 0 where
   pub c9 : AtEverySide kinds a (KeepsClaims kinds a)
   pub c10 : AtEveryCorner a (HasOneChange a)
   pub c11 : AtEveryCorner a (HasSmallChange a)
-  pub c12 : AtEveryCorner a (HasGreaterOuter a)
+  pub c12 : AtEveryCorner a (HasFallingCycles a)

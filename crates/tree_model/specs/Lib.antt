@@ -1,4 +1,5 @@
 pub mod Automata
+pub mod OuterLinks
 pub mod Conditions
 pub mod Contours
 pub mod Limits

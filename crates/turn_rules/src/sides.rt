@@ -75,32 +75,11 @@ pub fn right_by(r: &Rules, state: u32, side: u8, count: u8) -> u8
     (there - count as u16) as u8
 }
 
-/// A counter of open brackets below 2^127 is enough for the walk along the contour, leftwards or rightwards, from a
-/// side of a tile in a state of the rules.
-/// The call does nothing but read the tables, which tell this.
-pub fn brackets_fit(r: &Rules, state: u32, side: u8, leftwards: bool)
-    requires state { state < length r.now.automaton.states }
-    requires side { side < count_of r.now.kinds r.now.automaton state }
-    ensures { BracketsAreFew r.now leftwards state side }
+/// A counter of open brackets below 2^127 is enough for the walk along the contour, leftwards or
+/// rightwards.
+/// The call does nothing but read the rules, which tell this.
+pub fn brackets_fit(r: &Rules, leftwards: bool)
+    ensures { BracketsAreFew r.now leftwards }
 {
-    let inner = inner_side(r, state, side, leftwards);
-    let automaton = r.automaton();
-    let claim = automaton.claim(state, inner);
-    let _rank = automaton.rank(claim.corner);
-}
-
-/// The side at whose left end the inner corner of a side lies from which the walk goes leftwards or rightwards.
-fn inner_side(r: &Rules, state: u32, side: u8, leftwards: bool) -> u8
-    requires state { state < length r.now.automaton.states }
-    requires side { side < count_of r.now.kinds r.now.automaton state }
-    ensures left { leftwards ≡ true → result ≡ side }
-    ensures right { leftwards ≡ false
-        → result ≡ previous (count_of r.now.kinds r.now.automaton state) side }
-    ensures below { result < count_of r.now.kinds r.now.automaton state }
-{
-    if leftwards {
-        side
-    } else {
-        next_right(r, state, side)
-    }
+    let _automaton = r.automaton();
 }
