@@ -28,7 +28,7 @@ abbrev pub tess_limit : ℕ
 tess_limit = 1048576
 
 abbrev pub rules_limit : ℕ
-rules_limit = 33554432
+rules_limit = 134217728
 
 -- the file holds these bytes, and they are within its limit
 pub record Holds

@@ -37,7 +37,7 @@ use way_io::{FetchFault, Files};
 pub const TESS_LIMIT: u32 = 1_048_576;
 
 /// The greatest number of bytes of a rules file.
-pub const RULES_LIMIT: u32 = 33_554_432;
+pub const RULES_LIMIT: u32 = 134_217_728;
 
 /// Why nothing was loaded.
 #[derive(Clone, Copy, Debug, PartialEq, Eq)]

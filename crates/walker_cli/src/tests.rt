@@ -138,9 +138,9 @@ fn words_lead_to_lines(rt: HostRuntime) -> Result<(), Fail> {
 #[test]
 fn files_lead_to_lines(rt: HostRuntime) -> Result<(), Fail> {
     let alloc = rt.alloc();
-    let (tess, check, ranked) = ("kind x 0 -", "check p54.tess x", "check p73.tess x");
+    let (tess, check) = ("kind x 0 -", "check p54.tess x");
     let rules = PENTAGONS_RULES;
-    let corner = "\"rank\":0}";
+    let corner = "\"outer\":[0,1]}";
     for (words, text, old, new, line, code) in [
         (
             tess,
@@ -185,22 +185,16 @@ fn files_lead_to_lines(rt: HostRuntime) -> Result<(), Fail> {
         ),
         (check, rules, "r\":[0,1]", "r\":[0,0]", "broken 7 2 4\n", 7),
         (check, rules, "1,2,\"L\"", "1,3,\"L\"", "broken 1 2 5\n", 7),
-        (
-            check,
-            rules,
-            "e\":1",
-            "e\":\"1\"",
-            "rules shape scale 0\n",
-            6,
-        ),
+        (check, rules, "n\":2", "n\":1", "rules shape scale 0\n", 6),
+        (check, rules, "n\":2", "n\":3", "rules shape version 0\n", 6),
         (check, rules, "}\n", "", "rules syntax\n", 6),
-        (check, rules, "e\":1", "e\":0", "broken 1 0 0\n", 7),
+        (check, rules, "s\":[0]", "s\":[]", "broken 1 0 0\n", 7),
         (check, rules, "s\":[0]", "s\":[1]", "broken 2 0 0\n", 7),
         (
             check,
             rules,
             corner,
-            "\"rank\":0},{\"h\":[0,0,-1],\"outer\":[0,1],\"rank\":0}",
+            "\"outer\":[0,1]},{\"h\":[0,0,-1],\"outer\":[0,1]}",
             "accepted 3 2\n",
             0,
         ),
@@ -208,15 +202,15 @@ fn files_lead_to_lines(rt: HostRuntime) -> Result<(), Fail> {
             check,
             rules,
             corner,
-            "\"rank\":0},{\"h\":[0,0,0],\"outer\":[1,0],\"rank\":0}",
+            "\"outer\":[0,1]},{\"h\":[0,0,0],\"outer\":[1,0]}",
             "broken 12 1 0\n",
             7,
         ),
         (
-            ranked,
-            HEPTAGONS_RULES,
-            "k\":1",
-            "k\":0",
+            check,
+            rules,
+            corner,
+            "\"outer\":[0,1]},{\"h\":[0,0,0],\"outer\":[1,1]}",
             "broken 12 1 0\n",
             7,
         ),

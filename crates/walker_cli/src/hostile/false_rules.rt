@@ -42,10 +42,10 @@ fn changed(
 #[test]
 fn each_change_is_named(rt: HostRuntime) -> Result<(), Fail> {
     let alloc = rt.alloc();
-    let corner = "\"rank\":0}";
+    let corner = "\"outer\":[0,1]}";
     for (old, new, line) in [
         // One number, rule or claim is another one, or a state or a corner type more stands there.
-        ("\"scale\":1", "\"scale\":0", "broken 1 0 0\n"),
+        ("\"roots\":[0]", "\"roots\":[0,0]", "broken 1 0 0\n"),
         ("[0,-1,-2,-1]", "[0,-1]", "broken 1 0 2\n"),
         ("\"outer\":[0,1]", "\"outer\":[0,3]", "broken 1 0 3\n"),
         ("[0,1]],\"kind\":0", "[0,1]],\"kind\":1", "broken 1 1 4\n"),
@@ -64,17 +64,17 @@ fn each_change_is_named(rt: HostRuntime) -> Result<(), Fail> {
         ),
         (
             corner,
-            "\"rank\":0},{\"h\":[0,0,2],\"outer\":[0,1],\"rank\":0}",
+            "\"outer\":[0,1]},{\"h\":[0,0,2],\"outer\":[0,1]}",
             "broken 10 1 0\n",
         ),
         (
             corner,
-            "\"rank\":0},{\"h\":[0,2,2],\"outer\":[1,0],\"rank\":0}",
+            "\"outer\":[0,1]},{\"h\":[0,2,2],\"outer\":[1,0]}",
             "broken 11 1 0\n",
         ),
         (
             corner,
-            "\"rank\":0},{\"h\":[0,0,0],\"outer\":[1,0],\"rank\":0}",
+            "\"outer\":[0,1]},{\"h\":[0,0,0],\"outer\":[1,0]}",
             "broken 12 1 0\n",
         ),
         // And nothing changed.
@@ -171,7 +171,7 @@ fn each_number_is_raised_and_lowered(rt: HostRuntime) -> Result<(), Fail> {
             }
         }
     }
-    // Both come of the files alone: each number twice, and four greater ranks do no harm.
-    assert_eq!(rt; (tried, accepted), (578, 4));
+    // Both come of the files alone: each number twice, and no change does no harm.
+    assert_eq!(rt; (tried, accepted), (562, 0));
     Ok(())
 }

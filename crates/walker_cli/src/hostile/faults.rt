@@ -193,7 +193,7 @@ fn a_failing_call_leaves_a_beginning(rt: HostRuntime) -> Result<(), Fail> {
 fn too_much_is_refused(rt: HostRuntime) -> Result<(), Fail> {
     let alloc = rt.alloc();
     // A rules file of a byte too many.
-    let long = vec![in alloc; b' '; 33_554_433]?;
+    let long = vec![in alloc; b' '; 134_217_729]?;
     let mut held = files(alloc, &long, &[])?;
     let mut input = MemSource::new(alloc, b"", 10, &[])?;
     let mut out = MemSink::new(alloc, 50, 3, &[])?;

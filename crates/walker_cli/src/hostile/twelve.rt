@@ -37,7 +37,7 @@ pub(super) fn first_broken(kinds: &[Kind], a: &Automaton) -> Option<Place> {
     }
     for condition in 10..13 {
         for (g, corner) in a.corners.iter().enumerate() {
-            if !holds_at_corner(a, condition, corner).unwrap_or(false) {
+            if !holds_at_corner(a, condition, g, corner).unwrap_or(false) {
                 return Some((condition, g, 0));
             }
         }
@@ -58,8 +58,7 @@ fn size(kinds: &[Kind], a: &Automaton, part: u8) -> usize {
 fn holds_part(kinds: &[Kind], a: &Automaton, part: u8, index: usize) -> Option<bool> {
     match part {
         0 => Some(
-            (1..=65_536).contains(&a.scale)
-                && (1..=20_000).contains(&a.states.len())
+            (1..=100_000).contains(&a.states.len())
                 && (1..=20_000).contains(&a.corners.len())
                 && a.roots.len() == kinds.len(),
         ),
@@ -219,7 +218,7 @@ fn has_child_claims(a: &Automaton, state: &State, i: usize, rule: Rule) -> Optio
     )
 }
 
-fn holds_at_corner(a: &Automaton, condition: u8, corner: &Corner) -> Option<bool> {
+fn holds_at_corner(a: &Automaton, condition: u8, at: usize, corner: &Corner) -> Option<bool> {
     let (g, t) = (corner.outer.corner, usize::from(corner.outer.place));
     let last = i64::from(*corner.offsets.last()?);
     let first = i64::from(*corner.offsets.first()?);
@@ -229,12 +228,22 @@ fn holds_at_corner(a: &Automaton, condition: u8, corner: &Corner) -> Option<bool
             Some(change == last.saturating_sub(first))
         }
         11 => Some((-1..=1).contains(&last)),
-        _ => {
-            let scale = i64::from(a.scale);
-            let least = scale
-                .saturating_mul(offset(a, g, t)?)
-                .saturating_add(i64::from(corner.rank));
-            Some(i64::from(corner_of(a, corner.outer)?.rank) > least)
+        _ => falls_round(a, at),
+    }
+}
+
+// Whether the offsets that are entered sum below 0 along the links that lead from a corner type back
+// to it, where any do.
+fn falls_round(a: &Automaton, start: usize) -> Option<bool> {
+    let mut g = start;
+    let mut sum: i64 = 0;
+    for _link in 0..a.corners.len() {
+        let outer = a.corners.get(g)?.outer;
+        sum = sum.saturating_add(offset(a, outer.corner, usize::from(outer.place))?);
+        g = usize::try_from(outer.corner).ok()?;
+        if g == start {
+            return Some(sum < 0);
         }
     }
+    Some(true)
 }
