@@ -114,7 +114,7 @@ module _ (P : Type 0) (There : P → Type 0) (land : Land P) (plane : IsPlane P 
 
   -- the bounds, seen from an opening and from a closing side
   abbrev pub limit : ℕ → ℕ → ℕ
-  limit d g = suc (land.scale * suc d + land.rank g)
+  limit d g = suc (land.corner_count * suc d + land.rank g)
 
   pub record Reaches (turn : P → P) (mark : P → Mark) (most : ℕ) (p q : P) : Type 0 where
     pub moves : ℕ
@@ -126,7 +126,7 @@ module _ (P : Type 0) (There : P → Type 0) (land : Land P) (plane : IsPlane P 
   forwards {x} {y} g m =
       let (s, h) = bounded g m in
       let most = limit (land.depth x) (land.corner x) in
-      let u : land.scale * suc (land.depth x) ≡ land.scale * land.depth x + land.scale = omega arith in
+      let u : land.corner_count * suc (land.depth x) ≡ land.corner_count * land.depth x + land.corner_count = omega arith in
       let w : suc (Weighs (land.depth x) x) ≤ most = omega (arith, u) in
       record { moves = S m.way; few = omega (arith, s, most_moves_grow (suc (Weighs (land.depth x) x)) most w); halts = halts P land.left land.hop land.mark m most (omega (arith, h, w)) }
 
@@ -138,7 +138,7 @@ module _ (P : Type 0) (There : P → Type 0) (land : Land P) (plane : IsPlane P 
       let r = last_is P There land plane g m in
       let k = match_kept P There land plane g m in
       let c : land.rank (land.corner (land.right y)) ≡ land.rank (land.corner x) = ap land.rank (sym (ap land.corner r) ∙ k.ends) in
-      let u : land.scale * land.depth x ≤ land.scale * suc (land.depth y) = mul-le-mul_left land.scale (match_depth g m).1 in
+      let u : land.corner_count * land.depth x ≤ land.corner_count * suc (land.depth y) = mul-le-mul_left land.corner_count (match_depth g m).1 in
       let w : suc (Weighs (land.depth x) x) ≤ most = omega (arith, u, c) in
       let mm = match_mirrored P land.left land.right land.hop land.mark There plane.right_left plane.there_left plane.there_hop plane.hop_tree plane.hop_hop g m in
       let sz = mirrored_size P land.left land.right land.hop land.mark There plane.right_left plane.there_left plane.there_hop plane.hop_tree plane.hop_hop g m in

@@ -117,21 +117,21 @@ module _ (P : Type 0) (There : P → Type 0) (land : Land P) (plane : IsPlane P 
 
   -- the weight of a corner whose first tile has depth e
   abbrev pub weighs : ℕ → P → ℕ
-  weighs e z = land.scale * e + land.rank (land.corner z)
+  weighs e z = land.corner_count * e + land.rank (land.corner z)
 
   -- the entered offset, from the outer corner's side
-  pub ranked_at : (z : P) (g t : ℕ) → There z → land.outer (land.corner z) ≡ g → land.entry (land.corner z) ≡ t → (pos (land.rank (land.corner z)) +ℤ (pos land.scale *ℤ land.offset g t)) <ℤ pos (land.rank g)
+  pub ranked_at : (z : P) (g t : ℕ) → There z → land.outer (land.corner z) ≡ g → land.entry (land.corner z) ≡ t → (pos (land.rank (land.corner z)) +ℤ (pos land.corner_count *ℤ land.offset g t)) <ℤ pos (land.rank g)
   ranked_at z g t there e f =
       let n = land.corner z in
-      let r = subst (λ q. (pos (land.rank n) +ℤ (pos land.scale *ℤ land.offset q (land.entry n))) <ℤ pos (land.rank q)) e (plane.ranked z there) in
-      subst (λ q. (pos (land.rank n) +ℤ (pos land.scale *ℤ land.offset g q)) <ℤ pos (land.rank g)) f r
+      let r = subst (λ q. (pos (land.rank n) +ℤ (pos land.corner_count *ℤ land.offset q (land.entry n))) <ℤ pos (land.rank q)) e (plane.ranked z there) in
+      subst (λ q. (pos (land.rank n) +ℤ (pos land.corner_count *ℤ land.offset g q)) <ℤ pos (land.rank g)) f r
 
   -- a nested side weighs less than the corner in which it is nested, whose first tile has depth e
   pub nested_lighter : (z : P) (e : ℕ) → There z → land.mark (land.left z) ≡ Opens → pos (land.depth z) ≡ pos e +ℤ land.offset (land.corner z) (land.place z) → weighs (land.depth (land.left z)) (land.left z) < weighs e z
   nested_lighter z e there opens level =
       let r = ranked_at (land.left z) (land.corner z) (land.place z) (plane.there_left z there) (sym (plane.nested_corner z there opens)) (sym (plane.nested_place z there opens)) in
       let l : pos e +ℤ land.offset (land.corner z) (land.place z) ≡ pos (land.depth (land.left z)) = sym level ∙ ap (λ d. pos d) (sym (plane.left_depth z there)) in
-      lighter land.scale (land.depth (land.left z)) e (land.rank (land.corner (land.left z))) (land.rank (land.corner z)) (land.offset (land.corner z) (land.place z)) l r
+      lighter land.corner_count (land.depth (land.left z)) e (land.rank (land.corner (land.left z))) (land.rank (land.corner z)) (land.offset (land.corner z) (land.place z)) l r
 
   -- the weight of an opening side
   abbrev pub weight : P → ℕ
@@ -163,7 +163,7 @@ module _ (P : Type 0) (There : P → Type 0) (land : Land P) (plane : IsPlane P 
   Above e y = pos e +ℤ land.offset (land.corner (land.right y)) (land.last (land.corner (land.right y))) ≡ pos (suc (land.depth y))
 
   -- a nested closing side z, in a corner with number g whose last tile lies before y
-  nested_lighter_back : (y z : P) (g e d : ℕ) → There z → land.mark z ≡ Closes → land.corner z ≡ g → pos e +ℤ land.offset g (land.last g) ≡ pos (suc (land.depth y)) → pos (land.depth z) +ℤ land.offset g (land.last g) ≡ pos (land.depth y) +ℤ land.offset g (land.place z) → Above d z → weighs d (land.right z) < land.scale * e + land.rank g
+  nested_lighter_back : (y z : P) (g e d : ℕ) → There z → land.mark z ≡ Closes → land.corner z ≡ g → pos e +ℤ land.offset g (land.last g) ≡ pos (suc (land.depth y)) → pos (land.depth z) +ℤ land.offset g (land.last g) ≡ pos (land.depth y) +ℤ land.offset g (land.place z) → Above d z → weighs d (land.right z) < land.corner_count * e + land.rank g
   nested_lighter_back y z g e d there closes corner above level above_z =
       let before = land.right z in
       let tb = plane.there_right z there in
@@ -176,7 +176,7 @@ module _ (P : Type 0) (There : P → Type 0) (land : Land P) (plane : IsPlane P 
       let c2 = subst (λ q. land.offset g q -ℤ land.offset g (land.entry n) ≡ land.offset n (land.last n)) u2 c1 in
       let r = ranked_at before g (land.entry n) tb u1 refl in
       let l : pos e +ℤ land.offset g (land.entry n) ≡ pos d = omega (arith, ints, above, level, above_z, c2) in
-      lighter land.scale d e (land.rank n) (land.rank g) (land.offset g (land.entry n)) l r
+      lighter land.corner_count d e (land.rank n) (land.rank g) (land.offset g (land.entry n)) l r
 
   closed_under : (n : ℕ) → ((y : P) (e : ℕ) → There y → land.mark y ≡ Closes → Above e y → weighs e (land.right y) < n → (x : P) × There x × M x y) → (y : P) (e : ℕ) → There y → land.mark y ≡ Closes → Above e y → weighs e (land.right y) < suc n → (x : P) × There x × M x y
   closed_under n ih y e gy o above h =

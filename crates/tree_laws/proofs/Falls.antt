@@ -17,7 +17,7 @@ at_least_zero s r d x e =
     let p : pos s *ℤ x ≡ pos (s * d) = ap (λ y. pos s *ℤ y) e in
     omega (arith, ints, p)
 
--- at least minus the scale, for a depth of at least -1
+-- at least minus N, for a depth of at least -1
 at_least_minus : (s r d : ℕ) (x : ℤ) → x ≡ pos d -ℤ pos 1 → (pos 0 -ℤ pos s) ≤ℤ ((pos s *ℤ x) +ℤ pos r)
 at_least_minus s r d x e =
     let q : pos d ≡ x +ℤ pos 1 = omega (arith, ints, e) in
@@ -31,7 +31,7 @@ module _ (P : Type 0) (There : P → Type 0) (land : Land P) (plane : IsPlane P 
   first_depth p = pos (land.depth p) -ℤ land.offset (land.corner p) (land.place p)
 
   abbrev pub weight : P → ℤ
-  weight p = (pos land.scale *ℤ first_depth p) +ℤ pos (land.rank (land.corner p))
+  weight p = (pos land.corner_count *ℤ first_depth p) +ℤ pos (land.rank (land.corner p))
 
   pub stays : (p : P) → There p → land.mark (land.left p) ≡ Tree → weight (land.hop (land.left p)) ≡ weight p
   stays p h t =
@@ -39,7 +39,7 @@ module _ (P : Type 0) (There : P → Type 0) (land : Land P) (plane : IsPlane P 
       let c = plane.tree_corner p h t in
       let o : land.offset (land.corner q) (land.place q) ≡ land.offset (land.corner p) (suc (land.place p)) = ap (λ g. land.offset g (land.place q)) c ∙ ap (land.offset (land.corner p)) (plane.tree_place p h t) in
       let d : first_depth q ≡ first_depth p = omega (arith, ints, o, plane.tree_depth p h t) in
-      ap (λ x. (pos land.scale *ℤ x) +ℤ pos (land.rank (land.corner q))) d ∙ ap (λ g. (pos land.scale *ℤ first_depth p) +ℤ pos (land.rank g)) c
+      ap (λ x. (pos land.corner_count *ℤ x) +ℤ pos (land.rank (land.corner q))) d ∙ ap (λ g. (pos land.corner_count *ℤ first_depth p) +ℤ pos (land.rank g)) c
 
   first_at : (p : P) → There p → land.mark p ≡ Opens → land.offset (land.corner p) (land.place p) ≡ pos 0
   first_at p h o = ap (land.offset (land.corner p)) (plane.opens_first p h o) ∙ plane.first_offset p h
@@ -50,7 +50,7 @@ module _ (P : Type 0) (There : P → Type 0) (land : Land P) (plane : IsPlane P 
       let hx = plane.there_left p h in
       let r = ranked_at P There land plane x (land.corner p) (land.place p) hx (sym (plane.nested_corner p h o)) (sym (plane.nested_place p h o)) in
       let e : first_depth x ≡ first_depth p +ℤ land.offset (land.corner p) (land.place p) = omega (arith, ints, first_at x hx o, plane.left_depth p h) in
-      falls land.scale (land.rank (land.corner x)) (land.rank (land.corner p)) (first_depth x) (first_depth p) (land.offset (land.corner p) (land.place p)) e r
+      falls land.corner_count (land.rank (land.corner x)) (land.rank (land.corner p)) (first_depth x) (first_depth p) (land.offset (land.corner p) (land.place p)) e r
 
   pub falls_right : (p : P) → There p → land.mark (land.left p) ≡ Closes → weight p <ℤ weight (land.left p)
   falls_right p h c =
@@ -64,16 +64,16 @@ module _ (P : Type 0) (There : P → Type 0) (land : Land P) (plane : IsPlane P 
       let c2 = subst (λ q. land.offset (land.corner y) q -ℤ land.offset (land.corner y) t ≡ land.offset n (land.last n)) u2 c1 in
       let l = ap (land.offset n) (plane.closes_last p h c) in
       let e : first_depth p ≡ first_depth y +ℤ land.offset (land.corner y) t = omega (arith, ints, c2, l, plane.left_depth p h) in
-      falls land.scale (land.rank n) (land.rank (land.corner y)) (first_depth p) (first_depth y) (land.offset (land.corner y) t) e r
+      falls land.corner_count (land.rank n) (land.rank (land.corner y)) (first_depth p) (first_depth y) (land.offset (land.corner y) t) e r
 
   pub bounded_left : (p : P) → There p → land.mark p ≡ Opens → pos 0 ≤ℤ weight p
   bounded_left p h o =
       let e : first_depth p ≡ pos (land.depth p) = omega (arith, ints, first_at p h o) in
-      at_least_zero land.scale (land.rank (land.corner p)) (land.depth p) (first_depth p) e
+      at_least_zero land.corner_count (land.rank (land.corner p)) (land.depth p) (first_depth p) e
 
-  pub bounded_right : (p : P) → There p → land.mark (land.left p) ≡ Closes → (pos 0 -ℤ pos land.scale) ≤ℤ weight p
+  pub bounded_right : (p : P) → There p → land.mark (land.left p) ≡ Closes → (pos 0 -ℤ pos land.corner_count) ≤ℤ weight p
   bounded_right p h c =
       let l = ap (land.offset (land.corner p)) (plane.closes_last p h c) in
       let (d, e) = above_first (land.offset (land.corner p) (land.last (land.corner p))) (land.depth p) (plane.rises_little p h) in
       let f : first_depth p ≡ pos d -ℤ pos 1 = omega (arith, ints, e, l) in
-      at_least_minus land.scale (land.rank (land.corner p)) d (first_depth p) f
+      at_least_minus land.corner_count (land.rank (land.corner p)) d (first_depth p) f

@@ -5,7 +5,7 @@ use Rattle.std.proofs.lemmas.Bool.{cases_eq}
 use Rattle.std.proofs.Math.Nat.{mul-le-mul}
 use Rattle.tree_model.specs.Automata.{TreeAutomaton, outer}
 use Rattle.tree_model.specs.OuterLinks.{led, entered_sum}
-use Rattle.tree_laws.specs.Ranks.{corner_count, link_sum, natural, greatest, given, derived_rank}
+use Rattle.tree_laws.specs.Ranks.{corner_count, link_sum, natural, greatest, sum_into, derived_rank}
 use Rattle.tree_model.specs.OuterLinks.{entered}
 use Rattle.tree_model.proofs.OuterLinks.{AreLinked}
 
@@ -43,15 +43,15 @@ module _ (a : TreeAutomaton) (few : corner_count a ≤ 20000) (linked : AreLinke
       let u : corner_count a * (64 * n) ≤ 20000 * 1280000 = mul-le-mul few v in
       omega (arith, ints, t, u, up, few)
 
-  given_most : (g n x : ℕ) → n ≤ corner_count a → x < corner_count a → given a g n x ≤ 25600020000
-  given_most g n x up l = go (cases_eq (led a n x) g)
+  sum_into_most : (g n x : ℕ) → n ≤ corner_count a → x < corner_count a → sum_into a g n x ≤ 25600020000
+  sum_into_most g n x up l = go (cases_eq (led a n x) g)
     where
-      go : (led a n x ≡ g) ⊎ (led a n x ≢ g) → given a g n x ≤ 25600020000
+      go : (led a n x ≡ g) ⊎ (led a n x ≢ g) → sum_into a g n x ≤ 25600020000
       go (inl e) = let h = natural_most (link_sum a n x) 25600020000 (sum_most n x up l) in grind (arith, e, h)
       go (inr d) = grind (arith, d)
 
   pub rank_small : (g : ℕ) → derived_rank a g ≤ 25600020000
   unfolding derived_rank
   rank_small g =
-      greatest_most (suc (corner_count a)) (λ n. greatest (corner_count a) (λ x. given a g n x)) 25600020000
-      (λ n h. greatest_most (corner_count a) (λ x. given a g n x) 25600020000 (λ x l. given_most g n x (omega (arith, h)) l))
+      greatest_most (suc (corner_count a)) (λ n. greatest (corner_count a) (λ x. sum_into a g n x)) 25600020000
+      (λ n h. greatest_most (corner_count a) (λ x. sum_into a g n x) 25600020000 (λ x l. sum_into_most g n x (omega (arith, h)) l))

@@ -6,7 +6,7 @@ use Rattle.tree_model.specs.Automata.{TreeAutomaton, outer}
 use Rattle.tree_laws.proofs.Weights.{spread}
 use Rattle.tree_model.specs.OuterLinks.{entered, led, entered_sum}
 use Rattle.tree_model.specs.Conditions.{HasFallingCycles}
-use Rattle.tree_laws.specs.Ranks.{corner_count, link_sum, natural, greatest, given, derived_rank}
+use Rattle.tree_laws.specs.Ranks.{corner_count, link_sum, natural, greatest, sum_into, derived_rank}
 use Rattle.tree_model.proofs.OuterLinks.{AreLinked, led_on, sum_on}
 use Rattle.tree_laws.proofs.Cuts.{cut}
 
@@ -37,24 +37,24 @@ natural_is (pos m) n e = ap pos e
 natural_is (negsuc m) n e = absurd (omega (arith, e))
 
 module _ (a : TreeAutomaton) where
-  given_there : (g n x : ℕ) → led a n x ≡ g → given a g n x ≡ natural (link_sum a n x)
-  given_there g n x e = grind (arith, e)
+  sum_there : (g n x : ℕ) → led a n x ≡ g → sum_into a g n x ≡ natural (link_sum a n x)
+  sum_there g n x e = grind (arith, e)
 
-  given_some : (g n x m : ℕ) → given a g n x ≡ suc m → (led a n x ≡ g) × (link_sum a n x ≡ pos (suc m))
-  given_some g n x m e = go (cases_eq (led a n x) g)
+  sum_found : (g n x m : ℕ) → sum_into a g n x ≡ suc m → (led a n x ≡ g) × (link_sum a n x ≡ pos (suc m))
+  sum_found g n x m e = go (cases_eq (led a n x) g)
     where
       go : (led a n x ≡ g) ⊎ (led a n x ≢ g) → (led a n x ≡ g) × (link_sum a n x ≡ pos (suc m))
-      go (inl s) = (s, natural_is (link_sum a n x) m (sym (given_there g n x s) ∙ e))
+      go (inl s) = (s, natural_is (link_sum a n x) m (sym (sum_there g n x s) ∙ e))
       go (inr d) = absurd (grind (arith, e, d))
 
   -- no list of at most N links that ends in g has a greater sum
   pub rank_most : (g n x : ℕ) → n ≤ corner_count a → x < corner_count a → led a n x ≡ g → link_sum a n x ≤ℤ pos (derived_rank a g)
   unfolding derived_rank
   rank_most g n x few l e =
-      let h = greatest_at (corner_count a) (λ y. given a g n y) x l in
-      let k = greatest_at (suc (corner_count a)) (λ m. greatest (corner_count a) (λ y. given a g m y)) n (omega (arith, few)) in
+      let h = greatest_at (corner_count a) (λ y. sum_into a g n y) x l in
+      let k = greatest_at (suc (corner_count a)) (λ m. greatest (corner_count a) (λ y. sum_into a g m y)) n (omega (arith, few)) in
       let z = at_most_natural (link_sum a n x) in
-      omega (arith, ints, h, k, z, given_there g n x e)
+      omega (arith, ints, h, k, z, sum_there g n x e)
 
   -- and one has this sum
   pub record Best (g : ℕ) : Type 0 where
@@ -67,7 +67,7 @@ module _ (a : TreeAutomaton) where
 
   pub best : (g : ℕ) → g < corner_count a → Best g
   unfolding derived_rank
-  best g l = go (greatest_found (suc (corner_count a)) (λ m. greatest (corner_count a) (λ y. given a g m y)))
+  best g l = go (greatest_found (suc (corner_count a)) (λ m. greatest (corner_count a) (λ y. sum_into a g m y)))
     where
       none : derived_rank a g ≡ 0 → Best g
       none e =
@@ -77,19 +77,19 @@ module _ (a : TreeAutomaton) where
           spread_none : (n : ℕ) → (pos n *ℤ pos 0) +ℤ pos 0 ≡ pos 0
           spread_none n = omega (arith, ints)
 
-      some : (n x m : ℕ) → n < suc (corner_count a) → x < corner_count a → derived_rank a g ≡ given a g n x → given a g n x ≡ m → Best g
+      some : (n x m : ℕ) → n < suc (corner_count a) → x < corner_count a → derived_rank a g ≡ sum_into a g n x → sum_into a g n x ≡ m → Best g
       some n x zero h k e f = none (e ∙ f)
       some n x (suc m) h k e f =
-          let (s, t) = given_some g n x m f in
+          let (s, t) = sum_found g n x m f in
           record { links = n; start = x; few = omega (arith, h); known = k; ends = s; sum = t ∙ ap pos (sym (e ∙ f)) }
 
-      go : (derived_rank a g ≡ 0) ⊎ ((n : ℕ) × (n < suc (corner_count a)) × (derived_rank a g ≡ greatest (corner_count a) (λ y. given a g n y))) → Best g
+      go : (derived_rank a g ≡ 0) ⊎ ((n : ℕ) × (n < suc (corner_count a)) × (derived_rank a g ≡ greatest (corner_count a) (λ y. sum_into a g n y))) → Best g
       go (inl e) = none e
-      go (inr (n, h, e)) = inner (greatest_found (corner_count a) (λ y. given a g n y))
+      go (inr (n, h, e)) = inner (greatest_found (corner_count a) (λ y. sum_into a g n y))
         where
-          inner : (greatest (corner_count a) (λ y. given a g n y) ≡ 0) ⊎ ((x : ℕ) × (x < corner_count a) × (greatest (corner_count a) (λ y. given a g n y) ≡ given a g n x)) → Best g
+          inner : (greatest (corner_count a) (λ y. sum_into a g n y) ≡ 0) ⊎ ((x : ℕ) × (x < corner_count a) × (greatest (corner_count a) (λ y. sum_into a g n y) ≡ sum_into a g n x)) → Best g
           inner (inl f) = none (e ∙ f)
-          inner (inr (x, k, f)) = some n x (given a g n x) h k (e ∙ f) refl
+          inner (inr (x, k, f)) = some n x (sum_into a g n x) h k (e ∙ f) refl
 
   module _ (linked : AreLinked a) (falling : (g : ℕ) → g < corner_count a → HasFallingCycles a g) where
     -- a list with one link more

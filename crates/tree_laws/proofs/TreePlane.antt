@@ -32,7 +32,7 @@ tree_land kinds a k = record {
   outer = λ g. (outer a g).corner;
   entry = λ g. (outer a g).place;
   rank = derived_rank a;
-  scale = corner_count a;
+  corner_count = corner_count a;
 }
 
 down_offset : (dr dq : ℕ) (h0 h1 : ℤ) → dr ≡ suc dq → h1 ≡ h0 +ℤ pos 1 → pos dr +ℤ h0 ≡ pos dq +ℤ h1

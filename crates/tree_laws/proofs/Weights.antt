@@ -1,8 +1,8 @@
--- Arithmetic of weights, over plain numbers: a weight is the scale times a depth, and a rank.
+-- Arithmetic of weights, over plain numbers: a weight is N times a depth, and a rank. N is called s, any number.
 use Rattle.std.proofs.Common.{◌≡◌, ℕ, zero, suc, ◌+◌, ◌*◌, ◌<◌, sym, arith, ℤ, pos, negsuc, ◌+ℤ◌, ◌*ℤ◌, ◌<ℤ◌, ◌≤ℤ◌}
 use Rattle.std.proofs.lemmas.Int.{ints}
 
--- the scale times an offset, by the depths at both its ends
+-- s times an offset, by the depths at both its ends
 scaled : (s : ℕ) (h : ℤ) (n m : ℕ) → pos m +ℤ h ≡ pos n → pos (s * m) +ℤ (pos s *ℤ h) ≡ pos (s * n)
 scaled s (pos i) n m e =
     let f : n ≡ m + i = omega (arith, ints) in
@@ -16,7 +16,7 @@ split : (d : ℤ) → (m : ℕ) × (n : ℕ) × (pos m ≡ pos n +ℤ d)
 split (pos i) = (i, 0, omega (arith, ints))
 split (negsuc i) = (0, suc i, omega (arith, ints))
 
--- the scale times a sum
+-- s times a sum
 pub spread : (s : ℕ) (d e h : ℤ) → d ≡ e +ℤ h → pos s *ℤ d ≡ (pos s *ℤ e) +ℤ (pos s *ℤ h)
 spread s d e h q =
     let (m, n, u) = split e in

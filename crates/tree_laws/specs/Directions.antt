@@ -3,9 +3,9 @@
 use Rattle.std.specs.Prelude.{ℕ, suc, ◌+◌, ◌*◌, ◌≤◌, Bool, true, false, List, length}
 use Rattle.tile_model.specs.Tessellations.{TileKind}
 use Rattle.tree_model.specs.Automata.{TreeAutomaton}
-use Rattle.tree_laws.specs.Ranks.{derived_rank, corner_count}
 use Rattle.tree_model.specs.Contours.{Mark, mirrored}
 use Rattle.tree_model.specs.Positions.{Position, IsPosition, turn_left, turn_right, claim_of, hop, mark, LiesAcross}
+use Rattle.tree_laws.specs.Ranks.{derived_rank, corner_count}
 use Rattle.tree_laws.specs.Machine.{Halts, Moved, most_moves, moves_left}
 
 module _ (kinds : List TileKind) (a : TreeAutomaton) (k : ℕ) where
@@ -25,7 +25,7 @@ module _ (kinds : List TileKind) (a : TreeAutomaton) (k : ℕ) where
   inner_corner false p = (claim_of kinds a k (turn_right kinds a k p)).corner
 
   -- The most brackets that are open at once on the walk from a side: one more than the weight of
-  -- that corner is, at this depth, at most.
+  -- that corner is at most, as its first tile lies at most one deeper than the tile of the side.
   abbrev pub most_open : Bool → Position → ℕ
   most_open d p = suc (corner_count a * suc (length p.name) + derived_rank a (inner_corner d p))
 

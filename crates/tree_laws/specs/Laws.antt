@@ -103,7 +103,8 @@ module _ (kinds : List TileKind) (a : TreeAutomaton) (k : ℕ) where
   -- The weight of the corner at the left end of a side: the number of corner types times the depth
   -- of its first tile, and the rank of its type.
   abbrev pub weight : Position → ℤ
-  weight p = (pos (corner_count a) *ℤ first_depth p) +ℤ pos (derived_rank a (claim_of kinds a k p).corner)
+  weight p =
+      (pos (corner_count a) *ℤ first_depth p) +ℤ pos (derived_rank a (claim_of kinds a k p).corner)
 
   -- It stays the same round the corner, across sides of the tree.
   abbrev pub WeightStays : Type 0
@@ -121,7 +122,8 @@ module _ (kinds : List TileKind) (a : TreeAutomaton) (k : ℕ) where
         (p : Position) → There p → rule_of kinds a k (turn_left kinds a k p) ≡ Right →
         weight p <ℤ weight (turn_left kinds a k p)
 
-  -- It is at least 0 at a Left side, and at least minus the number of corner types before a Right side.
+  -- It is at least 0 at a Left side, and at least minus the number of corner types before a Right
+  -- side.
   pub record WeightIsBounded : Type 0 where
     pub left : (p : Position) → There p → rule_of kinds a k p ≡ Left → pos 0 ≤ℤ weight p
     pub right :

@@ -11,6 +11,7 @@ use Rattle.tree_model.specs.Contours.{Mark, Tree, Opens, Closes}
 -- A corner type has the number of its last tile, the depths of its tiles less that of the first
 -- one, the corner at the other end of its key edge with the number there of its own first tile, and
 -- a rank.
+-- There are so many corner types.
 pub record Land (P : Type 0) : Type 0 where
   pub left : P → P
   pub right : P → P
@@ -24,7 +25,7 @@ pub record Land (P : Type 0) : Type 0 where
   pub outer : ℕ → ℕ
   pub entry : ℕ → ℕ
   pub rank : ℕ → ℕ
-  pub scale : ℕ
+  pub corner_count : ℕ
 
 -- The facts, of those places that are of the tree.
 pub record IsPlane (P : Type 0) (IsThere : P → Type 0) (land : Land P) : Type 0 where
@@ -92,5 +93,6 @@ pub record IsPlane (P : Type 0) (IsThere : P → Type 0) (land : Land P) : Type 
   pub ranked :
       (p : P) → IsThere p →
       (pos (land.rank (land.corner p)) +ℤ
-      (pos land.scale *ℤ land.offset (land.outer (land.corner p)) (land.entry (land.corner p)))) <ℤ
+      (pos land.corner_count *ℤ
+      land.offset (land.outer (land.corner p)) (land.entry (land.corner p)))) <ℤ
       pos (land.rank (land.outer (land.corner p)))

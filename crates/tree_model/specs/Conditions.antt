@@ -11,7 +11,8 @@ use Rattle.tree_model.specs.Automata.{TreeAutomaton, state_at, root_at, rule_at,
 abbrev pub IsRoot : TreeAutomaton → ℕ → Type 0
 IsRoot a s = Contains a.roots s
 
--- C1, part 0: there are 1 to 100,000 states and 1 to 20,000 corner types, and as many roots as kinds
+-- C1, part 0: there are 1 to 100,000 states and 1 to 20,000 corner types, and as many roots as
+-- kinds
 pub record HasLimits (kinds : List TileKind) (a : TreeAutomaton) : Type 0 where
   pub states : (1 ≤ length a.states) × (length a.states ≤ 100000)
   pub corners : (1 ≤ length a.corners) × (length a.corners ≤ 20000)

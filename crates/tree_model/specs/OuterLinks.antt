@@ -1,4 +1,5 @@
--- Links from corner types to their outer ones.
+-- Outer links: one leads from each corner type to that of its outer, and enters it at the place of
+-- its outer.
 use Rattle.std.specs.Prelude.{ℕ, zero, suc, ℤ, pos, ◌+ℤ◌}
 use Rattle.tree_model.specs.Automata.{TreeAutomaton, offset, outer}
 
