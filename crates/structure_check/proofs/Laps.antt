@@ -87,8 +87,8 @@ module _ (a : TreeAutomaton) where
     low_all n = low_to (suc n) n (omega arith)
 
     -- where the sum is not below 0 the least one lies on a cycle that does not fall
-    pub least_rises : pos 0 ≤ℤ sum → ¬ (HasFallingCycles a least)
-    least_rises up falls =
+    pub least_fails : pos 0 ≤ℤ sum → ¬ (HasFallingCycles a least)
+    least_fails up falls =
         let (i, l, e) = h.on in
         let (b, s) = rotated least x i h.links e h.back in
         let f = falls h.links b in

@@ -4,7 +4,7 @@ use Rattle.std.proofs.lemmas.Int.{ints}
 use Rattle.std.proofs.lemmas.Bool.{cases_eq, cases_lt}
 use Rattle.tree_model.specs.Automata.{TreeAutomaton, outer}
 use Rattle.tree_model.specs.OuterLinks.{entered, led, entered_sum}
-use Rattle.structure_check.specs.Cycles.{AreEntered, IsRound}
+use Rattle.structure_check.specs.Cycles.{HaveOuters, IsRound}
 use Rattle.tree_model.proofs.OuterLinks.{led_on, sum_on}
 
 -- So many links and one more lead from x to y, and none before led back to x.
@@ -16,7 +16,7 @@ pub record IsRounding (a : TreeAutomaton) (x links y : ℕ) (sum : ℤ) (least :
   pub on : (i : ℕ) × (i ≤ links) × (led a i x ≡ least)
   pub low : (i : ℕ) → i ≤ links → least ≤ led a i x
 
-module _ (a : TreeAutomaton) (there : AreEntered a) (x : ℕ) where
+module _ (a : TreeAutomaton) (there : HaveOuters a) (x : ℕ) where
   -- the sum of so many offsets, each 64 at most in absolute value
   pub sums_fit : (n y : ℕ) → y < length a.corners → ((pos 0 -ℤ pos (64 * n)) ≤ℤ entered_sum a n y) × (entered_sum a n y ≤ℤ pos (64 * n))
   sums_fit zero y l = (omega (arith, ints), omega (arith, ints))

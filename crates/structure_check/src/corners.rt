@@ -7,7 +7,7 @@ ghost use Rattle.structure_check.specs.Broken.{IsFirstBroken};
 ghost use Rattle.structure_check.specs.Search.{HoldBelow, HasCorners, CornerHolds, corner_number};
 
 use crate::broken::Broken;
-use crate::cycles::least_rising;
+use crate::cycles::least_not_falling;
 use rules_data::Automaton;
 
 /// A condition that is read at each corner type.
@@ -102,7 +102,9 @@ pub fn check_corners(condition: CornerCondition, a: &Automaton) -> Result<(), Br
     Ok(())
 }
 
-/// Looks for the least corner type on a cycle of outer links that does not fall.
+/// Looks for the least corner type that lies on a cycle of outer links along which the entered
+/// offsets do not sum below 0, as condition 12 forbids. Takes no memory, and a constant number of
+/// passes over the corner types.
 pub fn check_cycles(a: &Automaton) -> Result<(), Broken>
     requires { HasCorners a.now }
     ensures ok { OnOk result ((kinds : List TileKind) → HoldBelow kinds a.now 12
@@ -110,7 +112,7 @@ pub fn check_cycles(a: &Automaton) -> Result<(), Broken>
     ensures err { IfErr result (λ b. (kinds : List TileKind) → HoldBelow kinds a.now 12
         → IsFirstBroken kinds a.now b.condition b.first b.second) }
 {
-    match least_rising(a) {
+    match least_not_falling(a) {
         None => Ok(()),
         Some(first) => Err(Broken {
             condition: 12,

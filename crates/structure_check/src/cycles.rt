@@ -1,9 +1,15 @@
-//! The least corner type on a cycle of outer links that does not fall, in one pass and without memory.
+//! The least corner type on a cycle of outer links that does not fall.
+//!
+//! A walk starts at each corner type in turn and follows outer links. It stamps the corner types
+//! that it passes with its number, and ends at the first one that has a stamp. Where that is its own
+//! stamp, it has gone into a cycle that no earlier walk met, and goes round it to sum the entered
+//! offsets. So each link is followed twice at most, wherever the links lead, and the stamps are in
+//! an array of fixed length.
 ghost use Rattle.std.specs.Prelude.{◌≡◌, ◌≢◌, ◌<◌, ◌≤◌, ◌-◌, ℕ, true, false, suc, ◌+◌, List, length, IfSome, IfNone, pos, ◌+ℤ◌, ◌-ℤ◌, ◌≤ℤ◌, ◌<ℤ◌};
 ghost use Rattle.tree_model.specs.Automata.{outer, offset, corner_valence};
 ghost use Rattle.tree_model.specs.OuterLinks.{entered, led};
 ghost use Rattle.tree_model.specs.Conditions.{HasFallingCycles};
-ghost use Rattle.structure_check.specs.Cycles.{mark_at, AreEntered, HasPassed, IsSettled, AreJudged};
+ghost use Rattle.structure_check.specs.Cycles.{stamp_at, HaveOuters, HasPassed, IsSettled, AreJudged};
 
 use rules_data::Automaton;
 
@@ -12,7 +18,7 @@ const MOST: usize = 20_000;
 
 /// The number of corner types.
 fn count(a: &Automaton) -> u32
-    requires { AreEntered a.now }
+    requires { HaveOuters a.now }
     ensures { result ≡ length a.now.corners }
 {
     a.corners.len() as u32
@@ -20,7 +26,7 @@ fn count(a: &Automaton) -> u32
 
 /// The offset at which the outer corner type of `g` is entered.
 fn entered(a: &Automaton, g: u32) -> i8
-    requires entered { AreEntered a.now }
+    requires outers { HaveOuters a.now }
     requires corner { g < length a.now.corners }
     ensures { result ≡ entered a.now g }
 {
@@ -30,7 +36,7 @@ fn entered(a: &Automaton, g: u32) -> i8
 
 /// A sum with the offset at which the outer corner type of `g` is entered.
 fn entering(a: &Automaton, g: u32, sum: i64) -> i64
-    requires entered { AreEntered a.now }
+    requires outers { HaveOuters a.now }
     requires corner { g < length a.now.corners }
     requires least { (pos 0 -ℤ pos 2000000) ≤ℤ (sum +ℤ entered a.now g) }
     requires most { (sum +ℤ entered a.now g) ≤ℤ pos 2000000 }
@@ -39,10 +45,10 @@ fn entering(a: &Automaton, g: u32, sum: i64) -> i64
     sum + i64::from(entered(a, g))
 }
 
-/// Passes the corner types to which outer links lead from `g`, up to one that was passed. Answers
-/// that one and the number of links.
+/// The walk from `g`, whose number is `stamp`: stamps the corner types to which outer links lead
+/// from `g`, up to the first that has a stamp. Answers that one and the number of links to it.
 fn pass(a: &Automaton, seen: &mut [u16], g: u32, stamp: u16) -> (u32, u32)
-    requires entered { AreEntered a.now }
+    requires outers { HaveOuters a.now }
     requires corner { g < length a.now.corners }
     requires long { length seen.old ≡ 20000 }
     requires stamp { stamp ≢ 0 }
@@ -69,7 +75,7 @@ fn falls(sum: i64) -> bool
 /// Goes once round the cycle of `x`, to which so many links lead back at most. Answers whether the
 /// offsets entered sum below 0, and the least corner type on the cycle.
 fn round(a: &Automaton, x: u32, links: u32) -> (bool, u32)
-    requires entered { AreEntered a.now }
+    requires outers { HaveOuters a.now }
     requires corner { x < length a.now.corners }
     requires few { links ≤ 20000 }
     requires back { (n : ℕ) × (n < links) × (led a.now (suc n) x ≡ x) }
@@ -89,10 +95,33 @@ fn round(a: &Automaton, x: u32, links: u32) -> (bool, u32)
     (falls(sum), least)
 }
 
+/// Judges the corner types to which outer links lead from `g`, by the walk from `g`. Answers the
+/// least corner type found so far on a cycle that does not fall, which is `least` before.
+fn judge(a: &Automaton, seen: &mut [u16], g: u32, least: u32) -> u32
+    requires outers { HaveOuters a.now }
+    requires corner { g < length a.now.corners }
+    requires long { length seen.old ≡ 20000 }
+    requires stamps { (y : ℕ) → stamp_at seen.old y ≤ g }
+    requires judged { AreJudged a.now seen.old least }
+    ensures long { length seen.new ≡ 20000 }
+    ensures stamps { (y : ℕ) → stamp_at seen.new y ≤ suc g }
+    ensures kept { (y : ℕ) → stamp_at seen.old y ≢ 0 → stamp_at seen.new y ≢ 0 }
+    ensures passed { stamp_at seen.new g ≢ 0 }
+    ensures judged { AreJudged a.now seen.new result }
+{
+    let stamp = g as u16 + 1;
+    let (x, links) = pass(a, seen, g, stamp);
+    if seen[x as usize] != stamp {
+        return least;
+    }
+    let (falling, low) = round(a, x, links);
+    if falling { least } else { least.min(low) }
+}
+
 /// The least corner type that lies on a cycle of outer links along which the entered offsets do not
-/// sum below 0. Takes no memory: it marks the corner types in an array of fixed length.
-pub fn least_rising(a: &Automaton) -> Option<u32>
-    requires { AreEntered a.now }
+/// sum below 0. Takes no memory.
+pub fn least_not_falling(a: &Automaton) -> Option<u32>
+    requires { HaveOuters a.now }
     ensures none { IfNone result ((g : ℕ) → g < length a.now.corners → HasFallingCycles a.now g) }
     ensures some { IfSome result (λ g. (g < length a.now.corners) × (¬ (HasFallingCycles a.now g))
         × ((h : ℕ) → h < g → HasFallingCycles a.now h)) }
@@ -104,26 +133,4 @@ pub fn least_rising(a: &Automaton) -> Option<u32>
         least = judge(a, &mut seen, g, least);
     }
     if least < corners { Some(least) } else { None }
-}
-
-/// Judges the corner types to which outer links lead from `g`.
-fn judge(a: &Automaton, seen: &mut [u16], g: u32, least: u32) -> u32
-    requires entered { AreEntered a.now }
-    requires corner { g < length a.now.corners }
-    requires long { length seen.old ≡ 20000 }
-    requires stamps { (y : ℕ) → mark_at seen.old y ≤ g }
-    requires judged { AreJudged a.now seen.old least }
-    ensures long { length seen.new ≡ 20000 }
-    ensures stamps { (y : ℕ) → mark_at seen.new y ≤ suc g }
-    ensures kept { (y : ℕ) → mark_at seen.old y ≢ 0 → mark_at seen.new y ≢ 0 }
-    ensures passed { mark_at seen.new g ≢ 0 }
-    ensures judged { AreJudged a.now seen.new result }
-{
-    let stamp = g as u16 + 1;
-    let (x, links) = pass(a, seen, g, stamp);
-    if seen[x as usize] != stamp {
-        return least;
-    }
-    let (falling, low) = round(a, x, links);
-    if falling { least } else { least.min(low) }
 }

@@ -15,6 +15,3 @@ mod table;
 pub use broken::Broken;
 pub use reading::type_of as side_type;
 pub use rules::{Rules, check, first_broken};
-
-#[cfg(test)]
-mod tests;

@@ -1,4 +1,4 @@
-use Rattle.structure_check.specs.Cycles.{unmarked}
+use Rattle.structure_check.specs.Cycles.{unstamped}
 use Rattle.structure_check.proofs.Passing.{IsPassing}
 use Rattle.structure_check.proofs.cycles.pass.Given as goal
 
@@ -6,4 +6,4 @@ abbrev pub invariant-loop-seen : goal.invariant-loop-seen
 invariant-loop-seen l = IsPassing l.a l.g l.stamp l.fn.seen l.seen l.x l.links
 
 abbrev pub decreases-loop-seen : goal.decreases-loop-seen
-decreases-loop-seen l = unmarked l.seen
+decreases-loop-seen l = unstamped l.seen

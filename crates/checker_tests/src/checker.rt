@@ -1,9 +1,9 @@
 // Automata of which it is known by hand whether they are accepted, and where not.
-use crate::{check, first_broken};
 use rules_data::Rule::{Child, Left, Parent, Right};
 use rules_data::{Automaton, Claim, Corner, Rule, State};
 use std::alloc::{AllocError, Global};
 use std::test::Fail;
+use structure_check::{check, first_broken};
 use tile_kinds::{Kind, Tessellation};
 
 fn kind(
@@ -82,8 +82,8 @@ fn threes(alloc: Global) -> Result<Vec<Corner>, AllocError> {
     Ok(corners)
 }
 
-// The least broken condition and its place, if there is one, as `first_broken` finds it in the parts
-// that `check` has accepted, or has given back.
+// The least broken condition and its place, if there is one, as `first_broken` finds it in the
+// parts that `check` has accepted, or has given back.
 fn found(tess: Tessellation, a: Automaton) -> Option<(u8, u32, u8)> {
     let (tess, a) = match check(tess, a) {
         Ok(rules) => rules.into_parts(),
@@ -187,20 +187,48 @@ fn three_at_a_corner(
     })
 }
 
-// A corner type that no claim names, and whose links lead along a cycle that does not fall.
+// Corner types that no claim names, beside the one of pentagons: three cycles of one or two links
+// with sum 0, one of them behind a tail, and a cycle of two links with sum -1.
 #[test]
 fn finds_cycles_that_do_not_fall(rt: HostRuntime) -> Result<(), Fail> {
     let alloc = rt.alloc();
-    for outer in [(1, 0), (1, 1)] {
+    let level: &[i8] = &[0, 0, 0];
+    let up: &[i8] = &[0, 1, 1, 0];
+    let down: &[i8] = &[0, -1, -1, 0];
+    let cases = [
+        (
+            level,
+            (1, 0),
+            level,
+            (1, 0),
+            level,
+            (1, 0),
+            Some((12, 1, 0)),
+        ),
+        (
+            level,
+            (1, 1),
+            level,
+            (1, 0),
+            level,
+            (1, 0),
+            Some((12, 1, 0)),
+        ),
+        (level, (3, 1), up, (3, 1), down, (2, 1), Some((12, 2, 0))),
+        (level, (3, 1), level, (3, 1), down, (2, 1), None),
+    ];
+    for (first, first_outer, second, second_outer, third, third_outer, want) in cases {
         let mut corners = Vec::new(alloc);
         corners.push(corner(alloc, &[0, -1, -2, -1], (0, 1))?)?;
-        corners.push(corner(alloc, &[0, 0, 0], outer)?)?;
+        corners.push(corner(alloc, first, first_outer)?)?;
+        corners.push(corner(alloc, second, second_outer)?)?;
+        corners.push(corner(alloc, third, third_outer)?)?;
         let a = pentagons(alloc, Child(1), corners)?;
         let kinds = vec![in alloc; kind(alloc, 5, &[(0, 0)], &[4])?]?;
         let Ok(tess) = Tessellation::make(kinds) else {
             panic!(rt; "no tessellation");
         };
-        assert_eq!(rt; found(tess, a), Some((12, 1, 0)));
+        assert_eq!(rt; found(tess, a), want);
     }
     Ok(())
 }
