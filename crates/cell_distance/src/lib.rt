@@ -5,8 +5,6 @@ mod arrival;
 mod between;
 mod fault;
 mod spots;
-#[cfg(test)]
-mod tests;
 
 pub use between::{distance, shortest};
 pub use fault::DistFault;

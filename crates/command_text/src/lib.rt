@@ -5,8 +5,6 @@ mod command;
 mod cutting;
 pub mod laws;
 mod reply;
-#[cfg(test)]
-mod tests;
 
 pub use command::{LONGEST_LINE, LineFault, read_line};
 pub use cutting::cut_at;

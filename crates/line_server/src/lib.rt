@@ -7,7 +7,5 @@ mod lines;
 mod outbox;
 mod reader;
 mod stream;
-#[cfg(test)]
-mod tests;
 
 pub use stream::{Ending, serve};

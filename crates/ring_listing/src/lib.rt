@@ -7,8 +7,6 @@ mod fault;
 mod listing;
 mod sizes;
 mod tally;
-#[cfg(test)]
-mod tests;
 mod trail;
 
 pub use asked::ring;

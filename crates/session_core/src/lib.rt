@@ -5,6 +5,3 @@ pub mod laws;
 mod session;
 
 pub use session::Session;
-
-#[cfg(test)]
-mod tests;

@@ -7,8 +7,6 @@ mod fault;
 pub mod laws;
 mod names;
 mod steps;
-#[cfg(test)]
-mod tests;
 mod tile;
 
 pub use crossing::{Contour, Crossing};

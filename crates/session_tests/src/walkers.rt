@@ -3,14 +3,11 @@
 ghost use Rattle.std.specs.Prelude.{◌≤◌, length, IsTrue};
 ghost use Rattle.session_core.specs.Sessions.{HasNumbers};
 
-mod ball;
-mod samples;
-
-use crate::{Session, laws};
-use ball::Ball;
+use crate::ball::Ball;
+use crate::samples::{squares, triangles};
 use reply_model::{Bytes, Command, Reply, WALKERS};
 use sample_tilings::{heptagons, heptagons_and_hexagons, pentagons};
-use samples::{squares, triangles};
+use session_core::{Session, laws};
 use std::alloc::{AllocError, Global};
 use std::test::Fail;
 use structure_check::Rules;
@@ -347,9 +344,9 @@ fn walkers_meet_as_in_a_ball(rt: HostRuntime) -> Result<(), Fail> {
     let alloc = rt.alloc();
     for (rules, sides, one, two) in [
         (pentagons(alloc), 600, 100, 82),
-        (squares(alloc)?, 300, 274, 288),
+        (squares(alloc), 300, 274, 288),
         (heptagons(alloc), 700, 168, 108),
-        (triangles(alloc)?, 300, 512, 512),
+        (triangles(alloc), 300, 512, 512),
         (heptagons_and_hexagons(alloc), 700, 180, 120),
     ] {
         let Some(rules) = rules else {

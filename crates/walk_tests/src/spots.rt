@@ -2,7 +2,7 @@
 ghost use Rattle.std.specs.Prelude.{OnOk};
 ghost use Rattle.spot_laws.specs.Spots.{IsSpot};
 
-use super::start;
+use crate::steps::start;
 use rules_data::Rule;
 use sample_tilings::heptagons_and_hexagons;
 use smallvec::SmallVec;

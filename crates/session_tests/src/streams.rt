@@ -1,7 +1,7 @@
 // Streams over sources and sinks in memory, in the tree of pentagons, four at a corner.
 ghost use Rattle.std.specs.Prelude.{◌≤◌, length};
 
-use crate::{Ending, laws, serve};
+use line_server::{Ending, laws, serve};
 use sample_tilings::pentagons;
 use session_core::Session;
 use std::alloc::{AllocError, Global};

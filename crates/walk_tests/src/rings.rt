@@ -1,6 +1,6 @@
 //! Sizes and names of rings of sample tilings, compared with values from outside.
-use crate::{CountFault, Ring, RingFault, RingSizes, count, ring};
 use regular_maker::regular;
+use ring_listing::{CountFault, Ring, RingFault, RingSizes, count, ring};
 use sample_tilings::{heptagons, heptagons_and_hexagons, pentagons};
 use std::alloc::Global;
 use std::test::Fail;

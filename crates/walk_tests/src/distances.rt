@@ -1,13 +1,11 @@
 // Distances and shortest walks in the trees of sample tilings, with values found by hand.
 ghost use Rattle.std.specs.Prelude.{◌<◌, length, IfSome};
 
-use crate::{DistFault, distance, shortest, spot_distance, spot_shortest};
+use cell_distance::{distance, shortest};
 use sample_tilings::{heptagons, pentagons};
 use std::alloc::{AllocError, Global};
 use std::test::Fail;
-use step_engine::{root_spot, walk};
 use structure_check::Rules;
-use turn_rules::Spot;
 use walk_words::{Walk, print_walk, read_walk};
 
 // The walk with this text.

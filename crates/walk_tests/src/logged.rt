@@ -1,11 +1,11 @@
 // A crossing that keeps a log, in the place of the contour.
 ghost use Rattle.std.specs.Prelude.{◌≡◌};
 
-use super::start;
-use crate::{Contour, Crossing, Detour, StepFault, walk_over};
+use crate::steps::start;
 use sample_tilings::pentagons;
 use std::alloc::AllocError;
 use std::test::Fail;
+use step_engine::{Contour, Crossing, Detour, StepFault, walk_over};
 use structure_check::Rules;
 use turn_rules::Spot;
 use walk_words::read_walk;

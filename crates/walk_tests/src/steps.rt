@@ -2,15 +2,13 @@
 ghost use Rattle.std.specs.Prelude.{IfOk, IfSome};
 ghost use Rattle.spot_laws.specs.Spots.{IsSpot};
 
-mod logged;
-mod slow;
-mod spots;
-
-use crate::laws::{deep_is_far, one_place};
-use crate::{StepFault, cross, root_spot, spot_walk, turn_left, turn_right, walk, walk_between};
 use sample_tilings::pentagons;
 use std::alloc::{AllocError, Global};
 use std::test::Fail;
+use step_engine::laws::{deep_is_far, one_place};
+use step_engine::{
+    StepFault, cross, root_spot, spot_walk, turn_left, turn_right, walk, walk_between,
+};
 use structure_check::Rules;
 use tree_laws::laws::{contours, levels, matching, places, rings, shortest, weights};
 use turn_rules::Spot;
@@ -18,7 +16,7 @@ use turn_rules::laws::{across_back, round_corner};
 use walk_words::{Walk, print_walk, read_walk};
 
 // Side 0 of the root of kind 0.
-fn start(alloc: Global, r: &Rules) -> Result<Option<Spot>, AllocError>
+pub(crate) fn start(alloc: Global, r: &Rules) -> Result<Option<Spot>, AllocError>
     ensures { IfOk result (λ found. IfSome found (IsSpot r.now)) }
 {
     if r.tessellation().kinds() == 0 {

@@ -1,5 +1,5 @@
 use Rattle.spot_laws.specs.Spots.{IsSpot}
-use Rattle.step_engine.proofs.tests.slow.agree.Given as goal
+use Rattle.walk_tests.proofs.slow.agree.Given as goal
 
 abbrev pub invariant-loop-x : goal.invariant-loop-x
 invariant-loop-x l = IsSpot l.r l.s

@@ -3,12 +3,12 @@
 ghost use Rattle.std.specs.Prelude.{OnOk};
 ghost use Rattle.spot_laws.specs.Spots.{IsSpot};
 
-use super::start;
-use crate::walk;
+use crate::steps::start;
 use rules_data::Rule;
 use sample_tilings::{heptagons, heptagons_and_hexagons, pentagons};
 use std::alloc::{AllocError, Global};
 use std::test::Fail;
+use step_engine::walk;
 use structure_check::Rules;
 use turn_rules::Spot;
 use walk_words::{Letter, Walk};

@@ -1,9 +1,9 @@
 // Lines read and printed, compared with values from outside.
-use crate::{
+use cell_names::read_name;
+use command_text::{
     Bytes, Command, LONGEST_LINE, LineFault, Reply, bad_line, cut_at, laws, read_line,
     too_long_line, write_reply,
 };
-use cell_names::read_name;
 use std::test::Fail;
 use walk_words::{Walk, read_walk};
 
