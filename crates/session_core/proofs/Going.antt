@@ -22,9 +22,7 @@ use Rattle.reply_model.specs.Histories.{History, most_walkers}
 use Rattle.lazy_map.specs.Texts.{Texts, text_under}
 use Rattle.reply_model.specs.Texts.{longest_text}
 use Rattle.session_core.specs.Sessions.{SessionState, walker_at, IsWalker, IsSession, IsKept, Stands}
-use Rattle.session_core.specs.Sessions.{StandsFor, StandsForWalks}
-use Rattle.session_core.specs.Sessions.{IsDueOverWalks, IsDueOverTree}
-use Rattle.session_core.specs.Answered.{HasAnswered, extended}
+use Rattle.session_core.specs.Answered.{HasAnswered}
 use Rattle.reply_laws.proofs.Histories.{none_due}
 use Rattle.reply_laws.proofs.Texts.{blank_at_first}
 use Rattle.reply_model.specs.Readings.{Reading}
@@ -207,6 +205,8 @@ empty_stands r s e blank = record {
   spots = λ w p f. absurd (no_spot s w p e f);
   texts = λ u p led.
       subst (λ texts. IsKept r [] u (text_under texts p.name)) (sym blank) (blank_at_first r u);
+  names = λ name some. absurd
+      (false≢true (subst (λ texts. IsSome (text_under texts name)) blank some));
 }
 
 -- the answer to a command that is known in another way
@@ -219,35 +219,6 @@ pub same_answer :
     {E : Type 0} (old new : SessionState) (c d : Command) (r : Result Reply E) → c ≡ d →
     IfOk r (λ x. HasAnswered old d x new) → IfOk r (λ x. HasAnswered old c x new)
 same_answer {E} old new c d r e a = subst (λ c. IfOk r (λ x. HasAnswered old c x new)) (sym e) a
-
--- what an answer says of the call
-module _ {E : Type 0} (old new : SessionState) (c : Command) where
-  abbrev Answers : Result Reply E → Type 0
-  Answers r = IfOk r (λ x. HasAnswered old c x new)
-
-  pub answered_due :
-      (r : Result Reply E) → Answers r →
-      IfOk r (λ x. (h : History) → StandsFor old h → IsDueOverTree old h c x)
-  answered_due (Ok x) a = a.due
-  answered_due (Err y) a = tt
-
-  pub answered_stands :
-      (r : Result Reply E) → Answers r →
-      IfOk r (λ x. (h : History) → StandsFor old h → StandsFor new (extended h c x))
-  answered_stands (Ok x) a = a.stands
-  answered_stands (Err y) a = tt
-
-  pub answered_due_over_walks :
-      (r : Result Reply E) → Answers r →
-      IfOk r (λ x. (h : History) → StandsForWalks old h → IsDueOverWalks old h c x)
-  answered_due_over_walks (Ok x) a = a.due_over_walks
-  answered_due_over_walks (Err y) a = tt
-
-  pub answered_stands_over_walks :
-      (r : Result Reply E) → Answers r →
-      IfOk r (λ x. (h : History) → StandsForWalks old h → StandsForWalks new (extended h c x))
-  answered_stands_over_walks (Ok x) a = a.stands_over_walks
-  answered_stands_over_walks (Err y) a = tt
 
 -- what is told of the text on the tile of a walker
 pub has_text :

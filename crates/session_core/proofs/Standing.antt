@@ -33,8 +33,8 @@ use Rattle.reply_laws.proofs.Events.{Event, walk_push, walk_stays, exists_push, 
 use Rattle.reply_laws.proofs.Histories.{unborn, due_push}
 use Rattle.tree_laws.proofs.Together.{walks_one_place, state_kinds}
 use Rattle.lazy_map.specs.Texts.{Texts, text_under}
-use Rattle.session_core.specs.Sessions.{SessionState, walker_at, IsWalker, IsSession, HasNumbers, IsKept, Stands}
-use Rattle.session_core.specs.Sessions.{session_over_walks, session_over_tree, StandsForWalks, StandsFor, IsDueOverTree}
+use Rattle.session_core.specs.Sessions.{SessionState, walker_at, IsWalker, IsSession, HasNumbers, IsKept, IsTileName, Stands}
+use Rattle.session_core.specs.Sessions.{session_over_walks, session_over_tree, StandsForWalks, StandsFor, IsDueOverTree, AreReadAlike}
 use Rattle.session_core.specs.Answered.{HasAnswered}
 use Rattle.session_core.proofs.Steps as steps
 use Rattle.session_core.proofs.Steps.{Does, HasGone, HasPut, with_walker, with_texts, told_text}
@@ -133,6 +133,7 @@ module _ (s : SessionState) (is : IsSession s) (h : History) (stands : StandsFor
     walkers = λ v. same_exists c x v (λ e. n (ap (λ (f : Event). f.1) e));
     spots = λ v p e. same_walk c x v p (no_letters v c x n) e;
     texts = same_texts c x (λ v text e. n (ap (λ (f : Event). f.1) e));
+    names = stands.names;
   }
 
   put_same : (w : ℕ) (q : TreeSpot) → w < most_walkers → walker_at (with_walker s w q) w ≡ Some q
@@ -159,6 +160,7 @@ module _ (s : SessionState) (is : IsSession s) (h : History) (stands : StandsFor
         λ v p f. ⊎_elim (λ e. spot_here v p f e)
         (λ n. same_walk c x v p (letters v n) (sym (put_other w v q n) ∙ f)) (cases_eq w v);
     texts = same_texts c x writes;
+    names = stands.names;
   }
     where
       walker_here :
@@ -325,7 +327,22 @@ module _ (s : SessionState) (is : IsSession s) (h : History) (stands : StandsFor
         spots = λ v q f. same_walk (Put w text) Done v q refl f;
         texts = λ u q led. ⊎_elim (written_here u q led) (written_elsewhere u q led)
             (same_name q.name p.name);
+        names = λ name some. ⊎_elim name_here (name_elsewhere name some) (same_name p.name name);
       }
+        where
+          name_here : {name : List ℕ} → p.name ≡ name → IsTileName Reads s.kind name
+          name_here e = record {
+            walk = walk_of h w;
+            place = position p;
+            placed = stands.spots w p at;
+            named = e;
+          }
+
+          name_elsewhere :
+              (name : List ℕ) → IsSome (text_under texts name) → p.name ≢ name →
+              IsTileName Reads s.kind name
+          name_elsewhere name some n =
+              stands.names name (subst IsSome (puts.others name (λ e. n (sym e))) some)
 
   get_due :
       (w : ℕ) (p : TreeSpot) → walker_at s w ≡ Some p →
@@ -504,45 +521,50 @@ stands_again r t s known same h st = record {
   texts = λ u p led.
       kept_alike same h u (text_under s.texts p.name)
       (st.texts u p ((same.places s.kind (known []) u p).1 led));
+  names = λ name some.
+      let at = st.names name some in
+      record {
+        walk = at.walk;
+        place = at.place;
+        placed = (same.places s.kind (known []) at.walk at.place).0 at.placed;
+        named = at.named;
+      };
 }
 
-pub for_walks :
-    (s : SessionState) → AreSound s.rules → s.kind < length s.rules.kinds → (h : History) →
-    StandsFor s h → StandsForWalks s h
-for_walks s sound known h st =
-    stands_again (session_over_tree s) (session_over_walks s) s (ends s sound known) (readings s sound known) h st
+-- what walks say of a session is what the tree says
+pub read_alike : (s : SessionState) → IsSession s → AreReadAlike s
+read_alike s is = record {
+  stands = λ h. (
+      stands_again over_walks over_tree s known back h,
+      stands_again over_tree over_walks s known same h,
+    );
+  due = λ h c x. (
+      read_again s.rules.kinds s.kind known back h,
+      read_again s.rules.kinds s.kind known same h,
+    );
+}
+  where
+    over_walks : Reading
+    over_walks = session_over_walks s
 
-for_tree :
-    (s : SessionState) → AreSound s.rules → s.kind < length s.rules.kinds → (h : History) →
-    StandsForWalks s h → StandsFor s h
-for_tree s sound known h st =
-    stands_again (session_over_walks s) (session_over_tree s) s (ends s sound known)
-    (the_other_way (readings s sound known)) h st
+    over_tree : Reading
+    over_tree = session_over_tree s
+
+    known : EndsAreKnown s.rules.kinds s.kind
+    known = ends s is.sound is.known
+
+    same : SayTheSame s.rules.kinds (session_over_tree s) (session_over_walks s)
+    same = readings s is.sound is.known
+
+    back : SayTheSame s.rules.kinds (session_over_walks s) (session_over_tree s)
+    back = the_other_way (readings s is.sound is.known)
 
 pub answered :
     (s : SessionState) (c : Command) (x : Reply) (t : SessionState) → IsSession s → HasNumbers c →
     Does s c x t → HasAnswered s c x t
 answered s c x t is lt d = record {
-  due_over_walks =
-      λ h stands. read_again s.rules.kinds s.kind (ends s is.sound is.known)
-      (readings s is.sound is.known) h
-      (does_due s is h (before h stands) d);
-  stands_over_walks =
-      λ h stands. for_walks t sound known (h ++ (c, x) ∷ [])
-      (does_stand s is h (before h stands) lt d);
   due = λ h stands. does_due s is h stands d;
   stands = λ h stands. does_stand s is h stands lt d;
   rules = (does_keep d).0;
   kind = (does_keep d).1;
 }
-  where
-    before : (h : History) → StandsForWalks s h → StandsFor s h
-    before h = for_tree s is.sound is.known h
-
-    known : t.kind < length t.rules.kinds
-    known =
-        subst (λ j. j < length t.rules.kinds) (sym (does_keep d).1)
-        (subst (λ r. s.kind < length r.kinds) (sym (does_keep d).0) is.known)
-
-    sound : AreSound t.rules
-    sound = subst AreSound (sym (does_keep d).0) is.sound

@@ -6,8 +6,7 @@ use Rattle.reply_model.specs.declared.Command.{Command}
 use Rattle.reply_model.specs.declared.Reply.{Reply}
 use Rattle.reply_model.specs.declared.Reply.TheVariants.{Far, TooBig}
 use Rattle.reply_model.specs.Histories.{History}
-use Rattle.session_core.specs.Sessions.{SessionState, StandsFor, StandsForWalks}
-use Rattle.session_core.specs.Sessions.{IsDueOverWalks, IsDueOverTree}
+use Rattle.session_core.specs.Sessions.{SessionState, StandsFor, IsDueOverTree}
 
 -- the history, and behind it the command with its reply
 abbrev pub extended : History → Command → Reply → History
@@ -16,13 +15,8 @@ extended history c x = history ++ (c, x) ∷ []
 -- The session has answered the command by the reply.
 -- The reply is the one that is due after each history for which the session stood.
 -- Now the session stands for that history with the command and the reply behind it.
--- Both are so over walks and over the tree.
 pub record HasAnswered (old : SessionState) (c : Command) (x : Reply) (new : SessionState) : Type 0
   where
-    pub due_over_walks :
-        (history : History) → StandsForWalks old history → IsDueOverWalks old history c x
-    pub stands_over_walks :
-        (history : History) → StandsForWalks old history → StandsForWalks new (extended history c x)
     pub due : (history : History) → StandsFor old history → IsDueOverTree old history c x
     pub stands : (history : History) → StandsFor old history → StandsFor new (extended history c x)
     pub rules : new.rules ≡ old.rules

@@ -71,9 +71,16 @@ abbrev pub IsKept : Reading → History → List Letter → Option (List ℕ) �
 IsKept reading history u None = IsBlank reading history u
 IsKept reading history u (Some text) = IsLastText reading history u text
 
+-- the name is that of a tile: of the place of a walk
+pub record IsTileName (reading : Reading) (k : ℕ) (name : List ℕ) : Type 0 where
+  pub walk : List Letter
+  pub place : Position
+  pub placed : reading.HasPlace k walk place
+  pub named : place.name ≡ name
+
 -- By a reading of the words of a reply, a session stands for a history: the replies in it are due,
 -- there is a spot for exactly the walkers that exist after it, the spot of each is the place of its
--- walk, and under the name of each tile its text is kept.
+-- walk, under the name of each tile its text is kept, and under other names none is.
 pub record Stands (reading : Reading) (session : SessionState) (history : History) : Type 0 where
   pub replies : AreDue (IsReply session.rules.kinds session.kind reading) history
   pub walkers : (w : ℕ) → IsSome (walker_at session w) ↔ Exists history w
@@ -85,6 +92,10 @@ pub record Stands (reading : Reading) (session : SessionState) (history : Histor
       (u : List Letter) (p : Position)
       → reading.HasPlace session.kind u p
       → IsKept reading history u (text_under session.texts p.name)
+  pub names :
+      (name : List ℕ)
+      → IsSome (text_under session.texts name)
+      → IsTileName reading session.kind name
 
 -- The two readings, for the tree of this session.
 abbrev pub session_over_walks : SessionState → Reading
@@ -106,3 +117,10 @@ IsDueOverWalks session = IsReply session.rules.kinds session.kind (session_over_
 
 abbrev pub IsDueOverTree : SessionState → History → Command → Reply → Type 0
 IsDueOverTree session = IsReply session.rules.kinds session.kind (session_over_tree session)
+
+-- What walks say of the session is what the tree says.
+pub record AreReadAlike (session : SessionState) : Type 0 where
+  pub stands : (history : History) → StandsForWalks session history ↔ StandsFor session history
+  pub due :
+      (history : History) (c : Command) (x : Reply)
+      → IsDueOverWalks session history c x ↔ IsDueOverTree session history c x

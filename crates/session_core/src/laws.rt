@@ -1,10 +1,12 @@
 //! What the replies of a session come to.
-//! The function only reads the rules: its contract states laws of the definitions.
+//! The functions only read the rules or the session: their contracts state laws of the definitions.
 ghost use Rattle.std.specs.Prelude.{◌<◌, length};
 ghost use Rattle.reply_model.specs.WalkReadings.{IsWalkReply};
 ghost use Rattle.reply_model.specs.TreeReadings.{IsTreeReply};
 ghost use Rattle.reply_laws.specs.Laws.{HaveOneReply, InterleavingsAgree};
+ghost use Rattle.session_core.specs.Sessions.{AreReadAlike};
 
+use crate::session::Session;
 use structure_check::Rules;
 
 /// After each history, each command has exactly one reply.
@@ -21,4 +23,13 @@ pub fn interleaving(r: &Rules, kind: u8)
 {
     // The laws hold of accepted rules, and this call tells that these are.
     let _automaton = r.automaton();
+}
+
+/// A session stands for a history by what walks say exactly where it does by what the tree says,
+/// and a reply is due by the one exactly where it is due by the other.
+pub fn readings(session: &Session<'_>)
+    ensures { AreReadAlike session.now }
+{
+    // The law holds of the state of a session, and this call tells that this is one.
+    let _written = session.written();
 }

@@ -3,12 +3,11 @@ ghost use Rattle.std.specs.Prelude.{◌≡◌, ◌<◌, ◌≤◌, ◌↔◌, su
 ghost use Rattle.std.specs.Prelude.{MatchOption, IfOk, OnErr, IsTrue};
 ghost use Rattle.tree_model.specs.Names.{IsRing};
 ghost use Rattle.reply_model.specs.declared.Command.{Command};
-ghost use Rattle.lazy_map.specs.Texts.{most_texts};
-ghost use Rattle.reply_model.specs.Histories.{History, most_walkers};
+ghost use Rattle.lazy_map.specs.Texts.{most_texts, HasNoDoubles};
+ghost use Rattle.reply_model.specs.Histories.{most_walkers};
 ghost use Rattle.session_core.specs.Sessions.{IsSession, HasNumbers, walker_at};
 ghost use Rattle.session_core.specs.Sessions.{StandsFor, StandsForWalks};
-ghost use Rattle.session_core.specs.Sessions.{IsDueOverWalks, IsDueOverTree};
-ghost use Rattle.session_core.specs.Answered.{HasAnswered, extended, refusal_of};
+ghost use Rattle.session_core.specs.Answered.{HasAnswered, refusal_of};
 
 use cell_distance::{DistFault, spot_distance, spot_shortest};
 use lazy_map::{LazyMap, PutFault};
@@ -86,30 +85,9 @@ impl<'r> Session<'r> {
 
         // The reply is the one that is due after each history for which the session stands.
         // The session stands then for that history with the command and its reply behind it.
-        // After want of memory it stands for the same histories as before.
-        ensures due_over_walks { IfOk result (λ x.
-            (history : History)
-            → StandsForWalks self.old history
-            → IsDueOverWalks self.old history c.now x) }
-        ensures stands_over_walks { IfOk result (λ x.
-            (history : History)
-            → StandsForWalks self.old history
-            → StandsForWalks self.new (extended history c.now x)) }
-        ensures memory_over_walks { OnErr result
-            ((history : History)
-            → StandsForWalks self.new history ↔ StandsForWalks self.old history) }
-
-        // The same, read over the tree.
-        ensures due { IfOk result (λ x.
-            (history : History)
-            → StandsFor self.old history
-            → IsDueOverTree self.old history c.now x) }
-        ensures stands { IfOk result (λ x.
-            (history : History)
-            → StandsFor self.old history
-            → StandsFor self.new (extended history c.now x)) }
-        ensures memory { OnErr result
-            ((history : History) → StandsFor self.new history ↔ StandsFor self.old history) }
+        // This is said over the tree, and `laws::readings` leads from there to what walks say.
+        // After want of memory the session stands for the same histories as before.
+        ensures answered { IfOk result (λ x. HasAnswered self.old c.now x self.new) }
         ensures unchanged { OnErr result (self.new ≡ self.old) }
         ensures rules { self.new.rules ≡ self.old.rules }
         ensures kind { self.new.kind ≡ self.old.kind }
@@ -132,9 +110,12 @@ impl<'r> Session<'r> {
         }
     }
 
-    /// How many tiles have a text. Takes no memory.
+    /// How many tiles have a text: the entries of the texts, each of which has a name of its own.
+    /// Takes no memory.
     pub fn written(&self) -> u32
-        ensures { result ≡ length self.now.texts }
+        ensures count { result ≡ length self.now.texts }
+        ensures no_doubles { HasNoDoubles self.now.texts }
+        ensures session { IsSession self.now }
     {
         self.texts.len()
     }
