@@ -1,5 +1,5 @@
 -- A line spells one command: its first word and what stands behind it tell which.
-use Rattle.std.proofs.Common.{◌≡◌, ◌≢◌, ℕ, ◌==◌, Bool, true, false, List, [], ◌∷◌, ◌++◌, if◌then◌else◌, Option, Some, None, Result, Ok, Err, IfOk, IsErrOf, MatchResult, refl, sym, ap, ap₂, ◌∙◌, subst}
+use Rattle.std.proofs.Common.{◌≡◌, ◌≢◌, ℕ, ◌==◌, Bool, true, false, List, [], ◌∷◌, ◌++◌, if◌then◌else◌, Option, Some, None, refl, sym, ap, ap₂, ◌∙◌, subst}
 use Rattle.std.specs.Str.{bytes_eq}
 use Rattle.std.proofs.lemmas.List.Elements.{All-nil, All-cons}
 use Rattle.tile_model.specs.declared.Letter.{Letter}
@@ -11,8 +11,6 @@ use Rattle.command_text.specs.Words.{Lacks, AreToldBy, Shape, walker_alone, walk
 use Rattle.command_text.specs.declared.command.Verb.{Verb}
 use Rattle.command_text.specs.declared.command.Verb.TheVariants.{New as NewVerb, Go as GoVerb, At as AtVerb, Same as SameVerb, Level as LevelVerb, Dist as DistVerb, Path as PathVerb}
 use Rattle.command_text.specs.declared.command.Verb.TheVariants.{Put as PutVerb, Get as GetVerb, Ring as RingVerb, Count as CountVerb}
-use Rattle.command_text.specs.declared.command.LineFault.{LineFault}
-use Rattle.command_text.specs.declared.command.LineFault.TheVariants.{TooLong, Bad, Memory}
 use Rattle.command_text.proofs.Splits.{lacks_none, one_split}
 use Rattle.command_text.proofs.Operands.{one_told, behind_word}
 
@@ -238,13 +236,3 @@ pub one_word : (line : List ℕ) → Lacks space line → SpellsNothing line
 one_word line lacks = λ c spelt.
     let p = parts line c spelt in
     lacks_none space line (word_of c) p.rest lacks p.text
-
--- what is read without being told wrongly is what is spelt
-pub complete :
-    (line : List ℕ) (r : Result Command LineFault) → IfOk r (IsSpelling line)
-    → (IsErrOf r Bad → SpellsNothing line) → r ≢ Err TooLong → (c : Command) → IsSpelling line c
-    → MatchResult r (λ read. read ≡ c) (λ fault. fault ≡ Memory)
-complete line (Ok read) spelt none short c is = unique line read c spelt is
-complete line (Err TooLong) spelt none short c is = absurd (short refl)
-complete line (Err Bad) spelt none short c is = absurd (none refl c is)
-complete line (Err Memory) spelt none short c is = refl

@@ -9,10 +9,11 @@ use Rattle.reply_model.specs.declared.Command.TheVariants.{New, Go, At, Same, Le
 use Rattle.reply_model.specs.declared.Command.TheVariants.{Put, Get, Ring, Count}
 use Rattle.reply_model.specs.Histories.{most_walkers}
 use Rattle.tile_model.specs.WalkTexts.{walk_text}
+use Rattle.command_text.specs.declared.command.TheConstants.{LONGEST_LINE}
 
 -- the most bytes of a line
 abbrev pub most_of_line : ℕ
-most_of_line = 8192
+most_of_line = LONGEST_LINE
 
 -- the byte of a space
 abbrev pub space : ℕ

@@ -1,6 +1,5 @@
 //! The lines of commands, read.
-ghost use Rattle.std.specs.Prelude.{◌≡◌, ◌≢◌, ℕ, ◌<◌, ◌≤◌, ◌⊎◌, ◌↔◌, List, length, Err, IfOk, IfErr, IsErrOf, IfSome, IfNone, MatchResult};
-ghost use Rattle.reply_model.specs.declared.Command.{Command as CommandData};
+ghost use Rattle.std.specs.Prelude.{◌≡◌, ◌≢◌, ℕ, ◌<◌, ◌↔◌, List, length, IfOk, IfErr, IsErrOf, IfSome, IfNone};
 ghost use Rattle.tile_model.specs.declared.Letter.{Letter};
 ghost use Rattle.tile_model.specs.WalkTexts.{walk_text};
 ghost use Rattle.command_text.specs.CommandLines.{IsWalkerNumber, IsSpelling, SpellsNothing, one_walker, two_walkers, walker_and_walk, walker_and_text, one_distance, most_of_line};
@@ -17,7 +16,7 @@ use walk_words::{Walk, WalkFault, read_walk};
 /// The most bytes that a line may have.
 pub const LONGEST_LINE: usize = 8_192;
 
-/// Why no command was read.
+/// Why a line was not read.
 #[derive(Clone, Copy, Debug, PartialEq, Eq, Error)]
 pub enum LineFault {
     /// The line has over 8,192 bytes.
@@ -31,7 +30,41 @@ pub enum LineFault {
     Memory,
 }
 
-/// Reads the line of a command, without its line feed.
+/// Why no command was read.
+#[derive(Clone, Copy, Debug, PartialEq, Eq, Error)]
+pub enum CommandFault {
+    /// The bytes are in no form.
+    #[error("in no form")]
+    Bad,
+    /// There is no memory for the command.
+    #[error("out of memory")]
+    Memory,
+}
+
+/// Reads the line of a command, without its line feed, as [`read_command`] does.
+/// What is spelt is read unless memory runs out, and it is one command: that follows with
+/// [`crate::laws::spelling`].
+///
+/// # Errors
+///
+/// `TooLong` exactly where the line has over 8,192 bytes. `Bad` where it has not and is in no form.
+pub fn read_line(alloc: Global, line: &[u8]) -> Result<Command, LineFault>
+    ensures spelt { IfOk result (IsSpelling line.now) }
+    ensures too_long { IsErrOf result LineFault.TooLong ↔ (most_of_line < length line.now) }
+    ensures bad { IsErrOf result LineFault.Bad → SpellsNothing line.now }
+{
+    if line.len() > LONGEST_LINE {
+        return Err(LineFault::TooLong);
+    }
+    match read_command(alloc, line) {
+        Ok(command) => Ok(command),
+        Err(CommandFault::Bad) => Err(LineFault::Bad),
+        Err(CommandFault::Memory) => Err(LineFault::Memory),
+    }
+}
+
+/// Reads a command from bytes of any number, by its first word and then by the shape of what stands
+/// behind it.
 ///
 /// The forms are `new W`, `go W LETTERS`, `at W`, `same W V`, `level W`, `dist W V`, `path W V`,
 /// `put W TEXT`, `get W`, `ring D` and `count D`, with exactly one space between two words.
@@ -44,29 +77,18 @@ pub enum LineFault {
 ///
 /// # Errors
 ///
-/// `TooLong` exactly where the line has over 8,192 bytes. `Bad` where it has not and is in no form.
-pub fn read_line(alloc: Global, line: &[u8]) -> Result<Command, LineFault>
-    // What is read is spelt, and what is spelt is read.
+/// `Bad` where the bytes are in no form.
+pub fn read_command(alloc: Global, line: &[u8]) -> Result<Command, CommandFault>
     ensures spelt { IfOk result (IsSpelling line.now) }
-    ensures complete { (command : CommandData) → IsSpelling line.now command
-        → length line.now ≤ most_of_line
-        → MatchResult result (λ read. read ≡ command) (λ fault. fault ≡ LineFault.Memory) }
-
-    // The line is refused for these reasons alone, and always then, unless memory runs out.
-    ensures too_long { IsErrOf result LineFault.TooLong ↔ (most_of_line < length line.now) }
-    ensures bad { IsErrOf result LineFault.Bad
-        → (length line.now ≤ most_of_line) × SpellsNothing line.now }
-    ensures unspelt { length line.now ≤ most_of_line → SpellsNothing line.now
-        → IsErrOf result LineFault.Bad ⊎ IsErrOf result LineFault.Memory }
-
-    // No line spells two commands.
-    ensures unique { (command other : CommandData) → IsSpelling line.now command
-        → IsSpelling line.now other → command ≡ other }
+    ensures bad { IsErrOf result CommandFault.Bad → SpellsNothing line.now }
 {
-    if line.len() > LONGEST_LINE {
-        return Err(LineFault::TooLong);
-    }
-    read_form(alloc, line)
+    let Some((word, rest)) = cut_at(line, b' ') else {
+        return Err(CommandFault::Bad);
+    };
+    let Some(verb) = verb_of(word) else {
+        return Err(CommandFault::Bad);
+    };
+    read_told(alloc, verb, rest)
 }
 
 /// What a command does: the first word of its line.
@@ -83,21 +105,6 @@ enum Verb {
     Get,
     Ring,
     Count,
-}
-
-/// Reads a line of any length, by its first word and then by the shape of what stands behind it.
-fn read_form(alloc: Global, line: &[u8]) -> Result<Command, LineFault>
-    ensures spelt { IfOk result (IsSpelling line.now) }
-    ensures bad { IsErrOf result LineFault.Bad → SpellsNothing line.now }
-    ensures not_too_long { result ≢ Err LineFault.TooLong }
-{
-    let Some((word, rest)) = cut_at(line, b' ') else {
-        return Err(LineFault::Bad);
-    };
-    let Some(verb) = verb_of(word) else {
-        return Err(LineFault::Bad);
-    };
-    read_told(alloc, verb, rest)
 }
 
 /// The verb of a first word.
@@ -133,10 +140,9 @@ fn verb_of(word: &[u8]) -> Option<Verb>
 }
 
 /// Reads the command of a verb, by what stands behind its word.
-fn read_told(alloc: Global, verb: Verb, rest: &[u8]) -> Result<Command, LineFault>
+fn read_told(alloc: Global, verb: Verb, rest: &[u8]) -> Result<Command, CommandFault>
     ensures told { IfOk result (IsCommandOf verb rest.now) }
-    ensures bad { IsErrOf result LineFault.Bad → IsNoCommandOf verb rest.now }
-    ensures not_too_long { result ≢ Err LineFault.TooLong }
+    ensures bad { IsErrOf result CommandFault.Bad → IsNoCommandOf verb rest.now }
 {
     Ok(match verb {
         Verb::New => Command::New(read_walker(rest)?),
@@ -169,19 +175,19 @@ fn read_told(alloc: Global, verb: Verb, rest: &[u8]) -> Result<Command, LineFaul
 }
 
 /// Reads what a command is told that names one walker.
-fn read_walker(bytes: &[u8]) -> Result<u8, LineFault>
+fn read_walker(bytes: &[u8]) -> Result<u8, CommandFault>
     ensures ok { IfOk result (λ w. AreToldBy bytes.now (one_walker w)) }
     ensures bad { IfErr result (λ _. TellNothing bytes.now walker_alone) }
-    ensures err { IfErr result (λ fault. fault ≡ LineFault.Bad) }
+    ensures err { IfErr result (λ fault. fault ≡ CommandFault.Bad) }
 {
     walker(bytes)
 }
 
 /// Reads what a command is told that names two walkers.
-fn read_two_walkers(bytes: &[u8]) -> Result<(u8, u8), LineFault>
+fn read_two_walkers(bytes: &[u8]) -> Result<(u8, u8), CommandFault>
     ensures ok { IfOk result (λ told. AreToldBy bytes.now (two_walkers told.0 told.1)) }
     ensures bad { IfErr result (λ _. TellNothing bytes.now walkers) }
-    ensures err { IfErr result (λ fault. fault ≡ LineFault.Bad) }
+    ensures err { IfErr result (λ fault. fault ≡ CommandFault.Bad) }
 {
     let (w, second) = take_walker(bytes)?;
     let v = walker(second)?;
@@ -189,10 +195,9 @@ fn read_two_walkers(bytes: &[u8]) -> Result<(u8, u8), LineFault>
 }
 
 /// Reads what a command is told that names a walker and a walk.
-fn read_walker_and_walk(alloc: Global, bytes: &[u8]) -> Result<(u8, Walk), LineFault>
+fn read_walker_and_walk(alloc: Global, bytes: &[u8]) -> Result<(u8, Walk), CommandFault>
     ensures ok { IfOk result (λ told. AreToldBy bytes.now (walker_and_walk told.0 told.1)) }
-    ensures bad { IsErrOf result LineFault.Bad → TellNothing bytes.now walker_with_walk }
-    ensures not_too_long { result ≢ Err LineFault.TooLong }
+    ensures bad { IsErrOf result CommandFault.Bad → TellNothing bytes.now walker_with_walk }
 {
     let (w, text) = take_walker(bytes)?;
     let walk = letters(alloc, text)?;
@@ -200,62 +205,60 @@ fn read_walker_and_walk(alloc: Global, bytes: &[u8]) -> Result<(u8, Walk), LineF
 }
 
 /// The walk of a text.
-fn letters(alloc: Global, text: &[u8]) -> Result<Walk, LineFault>
+fn letters(alloc: Global, text: &[u8]) -> Result<Walk, CommandFault>
     ensures ok { IfOk result (λ walk. walk_text walk ≡ text.now) }
-    ensures bad { IsErrOf result LineFault.Bad → (walk : List Letter) → walk_text walk ≢ text.now }
-    ensures not_too_long { result ≢ Err LineFault.TooLong }
+    ensures bad { IsErrOf result CommandFault.Bad → (walk : List Letter) → walk_text walk ≢ text.now }
 {
     match read_walk(alloc, text) {
         Ok(walk) => Ok(walk),
-        Err(WalkFault::Text) => Err(LineFault::Bad),
-        Err(WalkFault::Memory) => Err(LineFault::Memory),
+        Err(WalkFault::Text) => Err(CommandFault::Bad),
+        Err(WalkFault::Memory) => Err(CommandFault::Memory),
     }
 }
 
 /// Reads what a command is told that names a walker and a text: all bytes behind the one space
 /// behind the walker, perhaps none.
-fn read_walker_and_text(alloc: Global, bytes: &[u8]) -> Result<(u8, Bytes), LineFault>
+fn read_walker_and_text(alloc: Global, bytes: &[u8]) -> Result<(u8, Bytes), CommandFault>
     ensures ok { IfOk result (λ told. AreToldBy bytes.now (walker_and_text told.0 told.1)) }
-    ensures bad { IsErrOf result LineFault.Bad → TellNothing bytes.now walker_with_text }
-    ensures not_too_long { result ≢ Err LineFault.TooLong }
+    ensures bad { IsErrOf result CommandFault.Bad → TellNothing bytes.now walker_with_text }
 {
     let (w, text) = take_walker(bytes)?;
     match Bytes::copy_of(alloc, text) {
         Ok(copy) => Ok((w, copy)),
-        Err(_) => Err(LineFault::Memory),
+        Err(_) => Err(CommandFault::Memory),
     }
 }
 
 /// Reads what a command is told that names a distance from the root.
-fn read_distance(bytes: &[u8]) -> Result<u32, LineFault>
+fn read_distance(bytes: &[u8]) -> Result<u32, CommandFault>
     ensures ok { IfOk result (λ d. AreToldBy bytes.now (one_distance d)) }
     ensures bad { IfErr result (λ _. TellNothing bytes.now distance_alone) }
-    ensures err { IfErr result (λ fault. fault ≡ LineFault.Bad) }
+    ensures err { IfErr result (λ fault. fault ≡ CommandFault.Bad) }
 {
-    read_number(bytes).ok_or(LineFault::Bad)
+    read_number(bytes).ok_or(CommandFault::Bad)
 }
 
 /// The number of a walker in front of the first space, and what stands behind the space.
-fn take_walker(bytes: &[u8]) -> Result<(u8, &[u8]), LineFault>
+fn take_walker(bytes: &[u8]) -> Result<(u8, &[u8]), CommandFault>
     ensures ok { IfOk result (λ taken. IsInFront bytes.now taken.0 taken.1.now) }
-    ensures err { IfErr result (λ fault. fault ≡ LineFault.Bad) }
+    ensures err { IfErr result (λ fault. fault ≡ CommandFault.Bad) }
     ensures none { IfErr result (λ _. (w : ℕ) (rest : List ℕ) → ¬ (IsInFront bytes.now w rest)) }
 {
     let Some((digits, rest)) = cut_at(bytes, b' ') else {
-        return Err(LineFault::Bad);
+        return Err(CommandFault::Bad);
     };
     let w = walker(digits)?;
     Ok((w, rest))
 }
 
 /// The number of a walker that a word of digits writes.
-fn walker(word: &[u8]) -> Result<u8, LineFault>
+fn walker(word: &[u8]) -> Result<u8, CommandFault>
     ensures ok { IfOk result (IsWalkerNumber word.now) }
-    ensures err { IfErr result (λ fault. fault ≡ LineFault.Bad) }
+    ensures err { IfErr result (λ fault. fault ≡ CommandFault.Bad) }
     ensures none { IfErr result (λ _. (w : ℕ) → ¬ (IsWalkerNumber word.now w)) }
 {
     match read_number(word) {
         Some(w) if w < u32::from(WALKERS) => Ok(w as u8),
-        _ => Err(LineFault::Bad),
+        _ => Err(CommandFault::Bad),
     }
 }

@@ -6,7 +6,7 @@ mod cutting;
 pub mod laws;
 mod reply;
 
-pub use command::{LONGEST_LINE, LineFault, read_line};
+pub use command::{CommandFault, LONGEST_LINE, LineFault, read_command, read_line};
 pub use cutting::cut_at;
-pub use reply::{bad_line, too_long_line, write_reply};
+pub use reply::{bad_line, print_reply, too_long_line, write_reply};
 pub use reply_model::{Bytes, Command, Reply};

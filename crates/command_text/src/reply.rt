@@ -1,13 +1,14 @@
 //! The lines of replies, printed.
-ghost use Rattle.std.specs.Prelude.{◌≡◌, ◌∷◌, ◌++◌, codes, decimal, OnOk, OnErr};
+ghost use Rattle.std.specs.Prelude.{◌≡◌, ◌∷◌, ◌++◌, codes, decimal, IfOk, OnOk, OnErr};
+ghost use Rattle.tile_model.specs.WalkTexts.{letter_code, walk_text};
 ghost use Rattle.cell_names.specs.Text.{name_text};
 ghost use Rattle.command_text.specs.Replies.{StandsInFront, line_feed, number_words, path_words, place_words, reply_text, text_words};
 
 use cell_names::{Name, write_name};
 use itoa::Buffer;
 use reply_model::{Bytes, Reply};
-use std::alloc::AllocError;
-use walk_words::{Walk, print_walk};
+use std::alloc::{AllocError, Global};
+use walk_words::{Letter, Walk};
 
 /// The line that answers a line of over 8,192 bytes, with its line feed.
 pub fn too_long_line() -> &'static [u8]
@@ -21,6 +22,16 @@ pub fn bad_line() -> &'static [u8]
     ensures { result.now ≡ codes "bad" ++ line_feed }
 {
     b"bad\n"
+}
+
+/// The line of a reply, with its line feed.
+/// Of `Tiles` this is the line that tells how many names follow.
+pub fn print_reply(alloc: Global, x: &Reply) -> Result<Vec<u8>, AllocError>
+    ensures { IfOk result (λ text. text.items ≡ reply_text x.now) }
+{
+    let mut text = Vec::new(alloc);
+    write_reply(&mut text, x)?;
+    Ok(text)
 }
 
 /// Appends the line of a reply, with its line feed. Out of memory the bytes are as they were.
@@ -83,11 +94,37 @@ fn append_path(out: &mut Vec<u8>, walk: &Walk) -> Result<(), AllocError>
         (out.new.items ≡ out.old.items ++ path_words walk.now ++ line_feed) }
     ensures kept { OnErr result (StandsInFront out.new.items out.old.items) }
 {
-    let text = print_walk(*out.allocator(), walk)?;
     out.extend_from_slice(b"path ")?;
-    out.extend_from_slice(&text)?;
+    write_walk(out, walk)?;
     out.push(b'\n')?;
     Ok(())
+}
+
+/// Appends the text of a walk, letter by letter, or nothing.
+fn write_walk(out: &mut Vec<u8>, walk: &Walk) -> Result<(), AllocError>
+    ensures written { OnOk result (out.new.items ≡ out.old.items ++ walk_text walk.now) }
+    ensures unchanged { OnErr result (out.new.items ≡ out.old.items) }
+{
+    if walk.is_empty() {
+        return out.extend_from_slice(b"-");
+    }
+    // All the room is taken here, so that no letter below has to ask for more.
+    out.reserve(walk.len())?;
+    for x in walk.letters() {
+        out.push_reserved(byte_of(*x));
+    }
+    Ok(())
+}
+
+/// The byte of a letter.
+fn byte_of(x: Letter) -> u8
+    ensures { result ≡ letter_code x }
+{
+    match x {
+        Letter::L => b'L',
+        Letter::R => b'R',
+        Letter::X => b'X',
+    }
 }
 
 /// Appends the line of a text, or some bytes.

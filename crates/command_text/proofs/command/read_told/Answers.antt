@@ -1,6 +1,6 @@
 use Rattle.std.proofs.Common.{◌≡◌, Err, ap, ◌∙◌, rules}
-use Rattle.command_text.specs.declared.command.LineFault.{LineFault}
-use Rattle.command_text.specs.declared.command.LineFault.TheVariants.{Bad}
+use Rattle.command_text.specs.declared.command.CommandFault.{CommandFault}
+use Rattle.command_text.specs.declared.command.CommandFault.TheVariants.{Bad}
 use Rattle.command_text.specs.declared.command.Verb.TheVariants.{New, Go, At, Same, Level, Dist, Path, Put, Get, Ring, Count}
 use Rattle.command_text.proofs.Forms.{no_command}
 use Rattle.command_text.proofs.command.read_told.Goals as goal
@@ -13,7 +13,7 @@ pub returns-in_err-w-in-Go-clause-bad : goal.returns-in_err-w-in-Go-clause-bad
 returns-in_err-w-in-Go-clause-bad c = λ is_bad.
     let bad : c.in_err-w-in-Go.field-0.0 ≡ Bad = search (rules, is_bad) in
     no_command c.args.verb Go c.args.rest.now c.in-Go.is
-    (c.read_walker_and_walk.ensures.bad (c.in_err-w-in-Go.was ∙ ap (λ (f : LineFault). Err f) bad))
+    (c.read_walker_and_walk.ensures.bad (c.in_err-w-in-Go.was ∙ ap (λ (f : CommandFault). Err f) bad))
 
 pub returns-in_err-read_walker-in-At-clause-bad : goal.returns-in_err-read_walker-in-At-clause-bad
 returns-in_err-read_walker-in-At-clause-bad c = λ _.
@@ -39,7 +39,7 @@ pub returns-in_err-w-in-Put-clause-bad : goal.returns-in_err-w-in-Put-clause-bad
 returns-in_err-w-in-Put-clause-bad c = λ is_bad.
     let bad : c.in_err-w-in-Put.field-0.0 ≡ Bad = search (rules, is_bad) in
     no_command c.args.verb Put c.args.rest.now c.in-Put.is
-    (c.read_walker_and_text.ensures.bad (c.in_err-w-in-Put.was ∙ ap (λ (f : LineFault). Err f) bad))
+    (c.read_walker_and_text.ensures.bad (c.in_err-w-in-Put.was ∙ ap (λ (f : CommandFault). Err f) bad))
 
 pub returns-in_err-read_walker-in-Get-clause-bad : goal.returns-in_err-read_walker-in-Get-clause-bad
 returns-in_err-read_walker-in-Get-clause-bad c = λ _.

@@ -1,6 +1,6 @@
 use Rattle.command_text.proofs.Begins.{on_ok}
 use Rattle.command_text.proofs.Forms.{one_word, spells, spells_none, unknown}
-use Rattle.command_text.proofs.command.read_form.Goals as goal
+use Rattle.command_text.proofs.command.read_command.Goals as goal
 
 pub returns-in_default-clause-bad : goal.returns-in_default-clause-bad
 returns-in_default-clause-bad c = λ _. one_word c.args.line.now c.in_default.ensures.none
