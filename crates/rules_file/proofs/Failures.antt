@@ -1,5 +1,5 @@
 -- The first failure, part by part.
-use Rattle.std.proofs.Common.{◌≡◌, ℕ, zero, suc, ◌<◌, List, Some, codes, true, is_some, Result, Ok, Err, IsErrAnd, IfErr, refl, sym, ap, ◌∙◌, subst, arith, inl, inr, ◌⊎◌}
+use Rattle.std.proofs.Common.{◌≡◌, Bool, true, false, IsTrue, ℕ, zero, suc, ◌<◌, List, Some, codes, is_some, Result, Ok, Err, IsErrAnd, IfErr, refl, sym, ap, ◌∙◌, subst, arith, inl, inr, ◌⊎◌}
 use Rattle.serde_json.specs.Data.{Data, null, boolean, number, string, array, object, Items, no_items, item}
 use Rattle.serde_json.specs.Events.{items_len}
 use Rattle.serde_json.specs.Find.{get, get_item, as_object}
@@ -8,7 +8,7 @@ use Rattle.rules_file.specs.declared.fault.Part.TheVariants.{Whole, Version, Sca
 use Rattle.rules_file.specs.declared.fault.RulesFault.{RulesFault}
 use Rattle.rules_file.specs.declared.fault.RulesFault.TheVariants.{Memory}
 use Rattle.tree_model.specs.Automata.{TreeState, CornerType}
-use Rattle.rules_file.specs.Spelling.{whole, SpellsWord, SpellsCorner, SpellsState, SpellsArray, SpellsMember, IsFirstMisfit}
+use Rattle.rules_file.specs.Spelling.{HasWord, HasVersion, SpellsWord, SpellsCorner, SpellsState, SpellsArray, SpellsMember, IsFirstMisfit}
 use Rattle.rules_file.specs.Faults.{IsNoObject, HasNoArray, HasBadEntry, FailsAt, turn, Refuses, RefusesTable, no_memory, no_array, bad_entry}
 use Rattle.rules_file.proofs.Entries.{entry_spells}
 
@@ -43,16 +43,23 @@ none_before Spells name d ds i j found misfit l bad =
 bad_at : {A : Type 0} (Spells : Data → A → Type 0) (name : List ℕ) (d : Data) (ds : Items) (i : ℕ) → get name d ≡ Some (array ds) → IsFirstMisfit Spells ds i → HasBadEntry Spells name d i
 bad_at Spells name d ds i found misfit = record { entries = ds; found = found; entry = misfit.entry; at = misfit.at; bad = misfit.bad }
 
-pub cleared_scale : (d : Data) (n : ℕ) → ¬ IsNoObject d → get (codes "version") d ≡ Some (whole 1) → SpellsMember SpellsWord (codes "scale") d n → Cleared 3 d
+-- a file is of one version
+pub one_version : (d : Data) (r q : Bool) → HasVersion r d → HasVersion q d → r ≡ q
+one_version d true true h k = refl
+one_version d true false h k = absurd (cc)
+one_version d false true h k = absurd (cc)
+one_version d false false h k = refl
+
+pub cleared_scale : (d : Data) (ranked : Bool) → ¬ IsNoObject d → HasVersion ranked d → (IsTrue ranked → HasWord (codes "scale") d) → Cleared 3 d
 unfolding Cleared
-cleared_scale d n there version scale Whole j l fails = there fails.1
-cleared_scale d n there version scale Version j l fails = fails.1 version
-cleared_scale d n there version scale Scale j l fails = fails.1 n scale
-cleared_scale d n there version scale Roots j l fails = absurd (omega arith)
-cleared_scale d n there version scale Corners j l fails = absurd (omega arith)
-cleared_scale d n there version scale Corner j l fails = absurd (omega arith)
-cleared_scale d n there version scale States j l fails = absurd (omega arith)
-cleared_scale d n there version scale State j l fails = absurd (omega arith)
+cleared_scale d ranked there version scale Whole j l fails = there fails.1
+cleared_scale d ranked there version scale Version j l fails = fails.1 ranked version
+cleared_scale d ranked there version scale Scale j l fails = fails.1.1 (scale (one_version d ranked true version fails.1.0))
+cleared_scale d ranked there version scale Roots j l fails = absurd (omega arith)
+cleared_scale d ranked there version scale Corners j l fails = absurd (omega arith)
+cleared_scale d ranked there version scale Corner j l fails = absurd (omega arith)
+cleared_scale d ranked there version scale States j l fails = absurd (omega arith)
+cleared_scale d ranked there version scale State j l fails = absurd (omega arith)
 
 neither : {A B : Type 0} → ¬ A → ¬ B → ¬ (A ⊎ B)
 neither p q (inl a) = p a
@@ -81,16 +88,20 @@ cleared_array d ds before found Corner j l = absurd (omega arith)
 cleared_array d ds before found States j l = absurd (omega arith)
 cleared_array d ds before found State j l = absurd (omega arith)
 
-pub cleared_corners : (d : Data) (gs : List CornerType) → Cleared 4 d → SpellsMember (SpellsArray SpellsCorner) (codes "corners") d gs → Cleared 6 d
+-- the version is one, so a bad entry is one of this version
+no_bad_corner : (d : Data) (ranked : Bool) (i : ℕ) → HasVersion ranked d → ¬ HasBadEntry (SpellsCorner ranked) (codes "corners") d i → ¬ FailsAt Corner i d
+no_bad_corner d ranked i version none (r, also, bad) = none (subst (λ q. HasBadEntry (SpellsCorner q) (codes "corners") d i) (one_version d r ranked also version) bad)
+
+pub cleared_corners : (d : Data) (ranked : Bool) (gs : List CornerType) → HasVersion ranked d → Cleared 4 d → SpellsMember (SpellsArray (SpellsCorner ranked)) (codes "corners") d gs → Cleared 6 d
 unfolding Cleared
-cleared_corners d gs before corners Whole j l = before Whole j (omega arith)
-cleared_corners d gs before corners Version j l = before Version j (omega arith)
-cleared_corners d gs before corners Scale j l = before Scale j (omega arith)
-cleared_corners d gs before corners Roots j l = before Roots j (omega arith)
-cleared_corners d gs before corners Corners j l = λ fails. has_array SpellsCorner (codes "corners") d gs corners fails.1
-cleared_corners d gs before corners Corner j l = none_bad SpellsCorner (codes "corners") d gs j corners
-cleared_corners d gs before corners States j l = absurd (omega arith)
-cleared_corners d gs before corners State j l = absurd (omega arith)
+cleared_corners d ranked gs version before corners Whole j l = before Whole j (omega arith)
+cleared_corners d ranked gs version before corners Version j l = before Version j (omega arith)
+cleared_corners d ranked gs version before corners Scale j l = before Scale j (omega arith)
+cleared_corners d ranked gs version before corners Roots j l = before Roots j (omega arith)
+cleared_corners d ranked gs version before corners Corners j l = λ fails. has_array (SpellsCorner ranked) (codes "corners") d gs corners fails.1
+cleared_corners d ranked gs version before corners Corner j l = no_bad_corner d ranked j version (none_bad (SpellsCorner ranked) (codes "corners") d gs j corners)
+cleared_corners d ranked gs version before corners States j l = absurd (omega arith)
+cleared_corners d ranked gs version before corners State j l = absurd (omega arith)
 
 cleared_states_array : (d : Data) (ds : Items) → Cleared 6 d → get (codes "states") d ≡ Some (array ds) → Cleared 7 d
 unfolding Cleared
@@ -124,14 +135,14 @@ roots_refused d _ cleared (bad_entry {ds} {i} found misfit) = record {
   earlier_entries = λ j l. neither (λ none. none.1 ds found) (none_before SpellsWord (codes "roots") d ds i j found misfit l);
 }
 
-pub corners_refused : (d : Data) (e : RulesFault) → Cleared 4 d → RefusesTable SpellsCorner (codes "corners") d Corners Corner e → Refuses d e
+pub corners_refused : (d : Data) (ranked : Bool) (e : RulesFault) → HasVersion ranked d → Cleared 4 d → RefusesTable (SpellsCorner ranked) (codes "corners") d Corners Corner e → Refuses d e
 unfolding Cleared
-corners_refused d _ cleared no_memory = tt
-corners_refused d _ cleared (no_array none) = record { fails = (refl, none); earlier_parts = cleared; earlier_entries = λ j l. absurd (omega arith) }
-corners_refused d _ cleared (bad_entry {ds} {i} found misfit) = record {
-  fails = bad_at SpellsCorner (codes "corners") d ds i found misfit;
+corners_refused d ranked _ version cleared no_memory = tt
+corners_refused d ranked _ version cleared (no_array none) = record { fails = (refl, none); earlier_parts = cleared; earlier_entries = λ j l. absurd (omega arith) }
+corners_refused d ranked _ version cleared (bad_entry {ds} {i} found misfit) = record {
+  fails = (ranked, version, bad_at (SpellsCorner ranked) (codes "corners") d ds i found misfit);
   earlier_parts = cleared_array d ds cleared found;
-  earlier_entries = λ j l. none_before SpellsCorner (codes "corners") d ds i j found misfit l;
+  earlier_entries = λ j l. no_bad_corner d ranked j version (none_before (SpellsCorner ranked) (codes "corners") d ds i j found misfit l);
 }
 
 pub states_refused : (d : Data) (e : RulesFault) → Cleared 6 d → RefusesTable SpellsState (codes "states") d States State e → Refuses d e

@@ -1,5 +1,5 @@
 -- The JSON of an automaton spells it.
-use Rattle.std.proofs.Common.{◌<◌, ◌^◌, List, [], ◌∷◌, map, refl}
+use Rattle.std.proofs.Common.{◌<◌, ◌^◌, false, List, [], ◌∷◌, map, refl}
 use Rattle.std.specs.Prelude.{All, FitsSigned}
 use Rattle.std.specs.Int.{w8}
 use Rattle.std.proofs.lemmas.List.Elements.{All-head, All-tail}
@@ -18,11 +18,11 @@ each_spelt f Spells Fits one (x ∷ xs) h = (one x (All-head Fits x xs h), each_
 list_spelt : {A : Type 0} (f : A → Data) (Spells : Data → A → Type 0) (Fits : A → Type 0) → ((x : A) → Fits x → Spells (f x) x) → (xs : List A) → All Fits xs → SpellsArray Spells (list_json f xs) xs
 list_spelt f Spells Fits one xs h = (items_of (map f xs), refl, each_spelt f Spells Fits one xs h)
 
-corner_spelt : (g : CornerType) → FitsCorner g → SpellsCorner (corner_json g) g
+corner_spelt : (g : CornerType) → FitsCorner g → SpellsCorner false (corner_json g) g
 corner_spelt g h = record {
   h = (_, refl, list_spelt offset_json SpellsOffset (FitsSigned w8) (λ z k. record { value = refl; fits = k }) g.offsets h.offsets);
   outer = (_, refl, record { value = refl; corner_fits = h.outer.corner; place_fits = h.outer.place });
-  rank = (_, refl, record { value = refl; fits = h.rank });
+  rank = λ h. absurd (cc);
 }
 
 state_spelt : (s : TreeState) → FitsState s → SpellsState (state_json s) s
@@ -35,10 +35,11 @@ state_spelt s h = record {
 
 tables_spelt : (a : TreeAutomaton) → FitsTables a → SpellsTables (automaton_json a) a
 tables_spelt a h = record {
+  ranked = false;
   version = refl;
-  scale = (_, refl, record { value = refl; fits = h.scale });
+  scale = λ h. absurd (cc);
   roots = (_, refl, list_spelt whole SpellsWord (λ n. n < 2 ^ 32) (λ n k. record { value = refl; fits = k }) a.roots h.roots);
-  corners = (_, refl, list_spelt corner_json SpellsCorner FitsCorner corner_spelt a.corners h.corners);
+  corners = (_, refl, list_spelt corner_json (SpellsCorner false) FitsCorner corner_spelt a.corners h.corners);
   states = (_, refl, list_spelt state_json SpellsState FitsState state_spelt a.states h.states);
 }
 

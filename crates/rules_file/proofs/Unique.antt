@@ -1,5 +1,5 @@
 -- A JSON value spells one automaton at most, and has one first failure at most, and never both.
-use Rattle.std.proofs.Common.{◌≡◌, ℕ, zero, suc, ◌<◌, ◌≤◌, ℤ, pos, negsuc, List, [], ◌∷◌, get_or, Some, codes, refl, sym, ap, ap₂, ◌∙◌, subst, arith, inl, inr, ◌⊎◌, Result, Ok, Err, IfOk, IfErr, MatchResult}
+use Rattle.std.proofs.Common.{◌≡◌, Bool, ℕ, zero, suc, ◌<◌, ◌≤◌, ℤ, pos, negsuc, List, [], ◌∷◌, get_or, Some, codes, refl, sym, ap, ap₂, ◌∙◌, subst, arith, inl, inr, ◌⊎◌, Result, Ok, Err, IfOk, IfErr, MatchResult}
 use Rattle.std.proofs.lemmas.Bool.{cases_lt}
 use Rattle.serde_json.specs.Data.{Data, null, boolean, number, string, array, object, Items, no_items, item}
 use Rattle.serde_json.specs.Find.{get}
@@ -13,7 +13,7 @@ use Rattle.rules_file.specs.declared.fault.RulesFault.TheVariants.{Syntax, Shape
 use Rattle.serde_json.specs.Read.{read}
 use Rattle.rules_file.specs.Spelling.{offset_json, rule_json, pair_json, SpellsByte, SpellsWord, SpellsOffset, SpellsRule, SpellsPair, SpellEach, SpellsArray, SpellsMember, SpellsCorner, SpellsState, SpellsTables, IsTextOf, IsRulesFile}
 use Rattle.rules_file.specs.Faults.{IsNoObject, FailsAt, turn, IsFirstFault, Refuses}
-use Rattle.rules_file.proofs.Failures.{Cleared, cleared_scale, cleared_roots, cleared_corners, cleared_states}
+use Rattle.rules_file.proofs.Failures.{Cleared, one_version, cleared_scale, cleared_roots, cleared_corners, cleared_states}
 
 -- no value spells two things
 abbrev IsExact : {A : Type 0} → (Data → A → Type 0) → Type 0
@@ -90,12 +90,11 @@ pair_exact d x y h k =
     let q : x.place ≡ y.place = cc in
     λ i. record { corner = p i; place = q i }
 
-corner_exact : IsExact SpellsCorner
-corner_exact d x y h k =
+corner_exact : (ranked : Bool) → IsExact (SpellsCorner ranked)
+corner_exact ranked d x y h k =
     let p = member_exact _ (codes "h") (array_exact SpellsOffset offset_exact) d x.offsets y.offsets h.h k.h in
     let q = member_exact _ (codes "outer") pair_exact d x.outer y.outer h.outer k.outer in
-    let r = member_exact _ (codes "rank") word_exact d x.rank y.rank h.rank k.rank in
-    λ i. record { offsets = p i; outer = q i; rank = r i }
+    λ i. record { offsets = p i; outer = q i }
 
 state_exact : IsExact SpellsState
 state_exact d x y h k =
@@ -107,11 +106,11 @@ state_exact d x y h k =
 
 pub tables_exact : (d : Data) (x y : TreeAutomaton) → SpellsTables d x → SpellsTables d y → x ≡ y
 tables_exact d x y h k =
-    let p = member_exact _ (codes "scale") word_exact d x.scale y.scale h.scale k.scale in
     let q = member_exact _ (codes "roots") (array_exact SpellsWord word_exact) d x.roots y.roots h.roots k.roots in
-    let r = member_exact _ (codes "corners") (array_exact SpellsCorner corner_exact) d x.corners y.corners h.corners k.corners in
+    let also = subst (λ ranked. SpellsMember (SpellsArray (SpellsCorner ranked)) (codes "corners") d y.corners) (one_version d k.ranked h.ranked k.version h.version) k.corners in
+    let r = member_exact _ (codes "corners") (array_exact (SpellsCorner h.ranked) (corner_exact h.ranked)) d x.corners y.corners h.corners also in
     let s = member_exact _ (codes "states") (array_exact SpellsState state_exact) d x.states y.states h.states k.states in
-    λ i. record { states = s i; corners = r i; roots = q i; scale = p i }
+    λ i. record { states = s i; corners = r i; roots = q i }
 
 -- ---- failures
 
@@ -137,9 +136,9 @@ below_eight State = omega arith
 pub spelt_no_failure : (d : Data) (a : TreeAutomaton) (part : Part) (i : ℕ) → SpellsTables d a → ¬ FailsAt part i d
 unfolding Cleared
 spelt_no_failure d a part i h =
-    let scale = cleared_scale d a.scale (object_with (codes "version") d _ h.version) h.version h.scale in
+    let scale = cleared_scale d h.ranked (object_with (codes "version") d _ h.version) h.version h.scale in
     let roots = cleared_roots d a.roots scale h.roots in
-    let corners = cleared_corners d a.corners roots h.corners in
+    let corners = cleared_corners d h.ranked a.corners h.version roots h.corners in
     cleared_states d a.states corners h.states part i (below_eight part)
 
 part_at : ℕ → Part

@@ -132,21 +132,20 @@ object_writable n ms back h = record {
   utf8 = byte_utf8 123 (members_text false ms) (IsUtf8-are_ascii (123 ∷ []) refl) (h.utf8 false);
 }
 
-three : Data → Data → Data → Members
-three a b c = member (codes "h") a (member (codes "outer") b (member (codes "rank") c no_members))
+two : Data → Data → Members
+two a b = member (codes "h") a (member (codes "outer") b no_members)
 
-three_back : (a b c : Data) → of_json (outline a) ≡ Some a → of_json (outline b) ≡ Some b → of_json (outline c) ≡ Some c → of_members (members_outline (three a b c)) no_members ≡ Some (three a b c)
-unfolding three
-three_back a b c p q r = rw (p, q, r)
+two_back : (a b : Data) → of_json (outline a) ≡ Some a → of_json (outline b) ≡ Some b → of_members (members_outline (two a b)) no_members ≡ Some (two a b)
+unfolding two
+two_back a b p q = rw (p, q)
 
 corner_writable : (g : CornerType) → FitsCorner g → IsWritable 3 (corner_json g)
-unfolding three
+unfolding two
 corner_writable g h =
     let offsets = deeper 1 2 _ (omega arith) (list_writable 0 offset_json (FitsSigned w8) offset_writable g.offsets h.offsets) in
     let outer = deeper 1 2 _ (omega arith) (pair_writable g.outer h.outer) in
-    let rank = deeper 0 2 _ (omega arith) (word_writable g.rank h.rank) in
-    object_writable 2 (three _ _ _) (three_back _ _ _ offsets.back outer.back rank.back)
-    (member_writable 2 (codes "h") _ _ refl offsets (member_writable 2 (codes "outer") _ _ refl outer (member_writable 2 (codes "rank") _ _ refl rank (no_members_writable 2))))
+    object_writable 2 (two _ _) (two_back _ _ offsets.back outer.back)
+    (member_writable 2 (codes "h") _ _ refl offsets (member_writable 2 (codes "outer") _ _ refl outer (no_members_writable 2)))
 
 four : Data → Data → Data → Data → Members
 four a b c d = member (codes "claims") a (member (codes "kind") b (member (codes "off") c (member (codes "rules") d no_members)))
@@ -166,25 +165,24 @@ state_writable x h =
     object_writable 2 (four _ _ _ _) (four_back _ _ _ _ claims.back kind.back off.back rules.back)
     (member_writable 2 (codes "claims") _ _ refl claims (member_writable 2 (codes "kind") _ _ refl kind (member_writable 2 (codes "off") _ _ refl off (member_writable 2 (codes "rules") _ _ refl rules (no_members_writable 2)))))
 
-five : Data → Data → Data → Data → Data → Members
-five a b c d e = member (codes "corners") a (member (codes "roots") b (member (codes "scale") c (member (codes "states") d (member (codes "version") e no_members))))
+tables : Data → Data → Data → Data → Members
+tables a b c d = member (codes "corners") a (member (codes "roots") b (member (codes "states") c (member (codes "version") d no_members)))
 
-five_back : (a b c d e : Data) → of_json (outline a) ≡ Some a → of_json (outline b) ≡ Some b → of_json (outline c) ≡ Some c → of_json (outline d) ≡ Some d → of_json (outline e) ≡ Some e
-    → of_members (members_outline (five a b c d e)) no_members ≡ Some (five a b c d e)
-unfolding five
-five_back a b c d e p q r s t = rw (p, q, r, s, t)
+tables_back : (a b c d : Data) → of_json (outline a) ≡ Some a → of_json (outline b) ≡ Some b → of_json (outline c) ≡ Some c → of_json (outline d) ≡ Some d
+    → of_members (members_outline (tables a b c d)) no_members ≡ Some (tables a b c d)
+unfolding tables
+tables_back a b c d p q r s = rw (p, q, r, s)
 
 pub automaton_writable : (a : TreeAutomaton) → FitsTables a → IsWritable 5 (automaton_json a)
-unfolding five
+unfolding tables
 automaton_writable a h =
     let corners = list_writable 3 corner_json FitsCorner corner_writable a.corners h.corners in
     let roots = deeper 1 4 _ (omega arith) (list_writable 0 whole (λ n. n < 2 ^ 32) word_writable a.roots h.roots) in
-    let scale = deeper 0 4 _ (omega arith) (word_writable a.scale h.scale) in
     let states = list_writable 3 state_json FitsState state_writable a.states h.states in
-    let version = deeper 0 4 _ (omega arith) (word_writable 1 (omega arith)) in
-    object_writable 4 (five _ _ _ _ _) (five_back _ _ _ _ _ corners.back roots.back scale.back states.back version.back)
-    (member_writable 4 (codes "corners") _ _ refl corners (member_writable 4 (codes "roots") _ _ refl roots (member_writable 4 (codes "scale") _ _ refl scale
-    (member_writable 4 (codes "states") _ _ refl states (member_writable 4 (codes "version") _ _ refl version (no_members_writable 4))))))
+    let version = deeper 0 4 _ (omega arith) (word_writable 2 (omega arith)) in
+    object_writable 4 (tables _ _ _ _) (tables_back _ _ _ _ corners.back roots.back states.back version.back)
+    (member_writable 4 (codes "corners") _ _ refl corners (member_writable 4 (codes "roots") _ _ refl roots
+    (member_writable 4 (codes "states") _ _ refl states (member_writable 4 (codes "version") _ _ refl version (no_members_writable 4)))))
 
 pub deep_enough : (d : Data) → IsWritable 5 d → IsWritable max_depth d
 deep_enough d = deeper 5 max_depth d (omega arith)

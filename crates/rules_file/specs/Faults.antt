@@ -1,5 +1,5 @@
 -- Where a JSON value first fails to spell an automaton.
-use Rattle.std.specs.Prelude.{◌≡◌, ◌≢◌, ℕ, ◌<◌, List, codes, Some, ◌⊎◌, ◌^◌, ⊤}
+use Rattle.std.specs.Prelude.{◌≡◌, ◌≢◌, Bool, true, ℕ, ◌<◌, List, codes, Some, ◌⊎◌, ◌^◌, ⊤}
 use Rattle.serde_json.specs.Data.{Data, array, object, Items, Members}
 use Rattle.serde_json.specs.Find.{get, get_item}
 use Rattle.serde_json.specs.Events.{items_len}
@@ -7,7 +7,7 @@ use Rattle.rules_file.specs.declared.fault.Part.{Part}
 use Rattle.rules_file.specs.declared.fault.Part.TheVariants.{Whole, Version, Scale, Roots, Corners, Corner, States, State}
 use Rattle.rules_file.specs.declared.fault.RulesFault.{RulesFault}
 use Rattle.rules_file.specs.declared.fault.RulesFault.TheVariants.{Syntax, Shape, Memory}
-use Rattle.rules_file.specs.Spelling.{whole, IsFirstMisfit, SpellsWord, SpellsMember, SpellsCorner, SpellsState}
+use Rattle.rules_file.specs.Spelling.{IsFirstMisfit, HasWord, HasVersion, SpellsWord, SpellsCorner, SpellsState}
 
 abbrev pub IsNoObject : Data → Type 0
 IsNoObject d = (ms : Members) → d ≢ object ms
@@ -28,12 +28,13 @@ pub record HasBadEntry {A : Type 0} (Spells : Data → A → Type 0)
 -- the part fails, at this index
 abbrev pub FailsAt : Part → ℕ → Data → Type 0
 FailsAt Whole i d = (i ≡ 0) × IsNoObject d
-FailsAt Version i d = (i ≡ 0) × (get (codes "version") d ≢ Some (whole 1))
-FailsAt Scale i d = (i ≡ 0) × ((n : ℕ) → ¬ SpellsMember SpellsWord (codes "scale") d n)
+FailsAt Version i d = (i ≡ 0) × ((ranked : Bool) → ¬ HasVersion ranked d)
+FailsAt Scale i d = (i ≡ 0) × (HasVersion true d × (¬ HasWord (codes "scale") d))
 FailsAt Roots i d =
     ((i ≡ 0) × HasNoArray (codes "roots") d) ⊎ HasBadEntry SpellsWord (codes "roots") d i
 FailsAt Corners i d = (i ≡ 0) × HasNoArray (codes "corners") d
-FailsAt Corner i d = HasBadEntry SpellsCorner (codes "corners") d i
+FailsAt Corner i d =
+    (ranked : Bool) × HasVersion ranked d × HasBadEntry (SpellsCorner ranked) (codes "corners") d i
 FailsAt States i d = (i ≡ 0) × HasNoArray (codes "states") d
 FailsAt State i d = HasBadEntry SpellsState (codes "states") d i
 

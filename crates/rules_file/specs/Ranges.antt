@@ -16,7 +16,6 @@ pub record FitsPair (c : Claim) : Type 0 where
 pub record FitsCorner (g : CornerType) : Type 0 where
   pub offsets : All (λ z. FitsSigned w8 z) g.offsets
   pub outer : FitsPair g.outer
-  pub rank : g.rank < 2 ^ 32
 
 pub record FitsState (s : TreeState) : Type 0 where
   pub kind : s.kind < 2 ^ 8
@@ -25,7 +24,6 @@ pub record FitsState (s : TreeState) : Type 0 where
   pub claims : All FitsPair s.claims
 
 pub record FitsTables (a : TreeAutomaton) : Type 0 where
-  pub scale : a.scale < 2 ^ 32
   pub roots : All IsWord a.roots
   pub corners : All FitsCorner a.corners
   pub states : All FitsState a.states

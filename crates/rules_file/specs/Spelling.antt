@@ -1,5 +1,5 @@
 -- Rules files: how an automaton is written as JSON, and which JSON values spell it.
-use Rattle.std.specs.Prelude.{◌≡◌, ℕ, ◌^◌, ◌<◌, ℤ, List, [], ◌∷◌, ◌++◌, map, codes, Some, IsUtf8, FitsSigned, ⊤}
+use Rattle.std.specs.Prelude.{◌≡◌, Bool, true, false, IsTrue, ℕ, ◌^◌, ◌<◌, ℤ, List, [], ◌∷◌, ◌++◌, map, codes, Some, IsUtf8, FitsSigned, ⊤}
 use Rattle.std.specs.Int.{w8}
 use Rattle.serde_json.specs.Data.{Data, string, number, unsigned, array, object, Items, no_items, item, no_members, member}
 use Rattle.serde_json.specs.Find.{get, get_item, of_integer}
@@ -36,8 +36,7 @@ list_json f xs = array (items_of (map f xs))
 abbrev pub corner_json : CornerType → Data
 corner_json g =
     object (member (codes "h") (list_json offset_json g.offsets)
-    (member (codes "outer") (pair_json g.outer)
-    (member (codes "rank") (whole g.rank) no_members)))
+    (member (codes "outer") (pair_json g.outer) no_members))
 
 abbrev pub state_json : TreeState → Data
 state_json s =
@@ -46,13 +45,17 @@ state_json s =
     (member (codes "off") (whole s.off)
     (member (codes "rules") (list_json rule_json s.rules) no_members))))
 
+-- the version of a file: version 1 has a scale and a rank of each corner type, version 2 has none
+abbrev pub version_of : Bool → ℕ
+version_of true = 1
+version_of false = 2
+
 abbrev pub automaton_json : TreeAutomaton → Data
 automaton_json a =
     object (member (codes "corners") (list_json corner_json a.corners)
     (member (codes "roots") (list_json whole a.roots)
-    (member (codes "scale") (whole a.scale)
     (member (codes "states") (list_json state_json a.states)
-    (member (codes "version") (whole 1) no_members)))))
+    (member (codes "version") (whole (version_of false)) no_members))))
 
 -- the canonical text: compact JSON, and a line feed
 abbrev pub rules_text : TreeAutomaton → List ℕ
@@ -104,10 +107,15 @@ SpellsArray Spells d xs = (ds : Items) × (d ≡ array ds) × SpellEach Spells d
 abbrev pub SpellsMember : {A : Type 0} → (Data → A → Type 0) → List ℕ → Data → A → Type 0
 SpellsMember Spells name d x = (e : Data) × (get name d ≡ Some e) × Spells e x
 
-pub record SpellsCorner (d : Data) (g : CornerType) : Type 0 where
+-- the member of this name is a whole number from 0 to 2^32 - 1, whichever
+abbrev pub HasWord : List ℕ → Data → Type 0
+HasWord name d = (n : ℕ) × SpellsMember SpellsWord name d n
+
+-- in a file with ranks the corner type has one, which is no part of it
+pub record SpellsCorner (ranked : Bool) (d : Data) (g : CornerType) : Type 0 where
   pub h : SpellsMember (SpellsArray SpellsOffset) (codes "h") d g.offsets
   pub outer : SpellsMember SpellsPair (codes "outer") d g.outer
-  pub rank : SpellsMember SpellsWord (codes "rank") d g.rank
+  pub rank : IsTrue ranked → HasWord (codes "rank") d
 
 pub record SpellsState (d : Data) (s : TreeState) : Type 0 where
   pub kind : SpellsMember SpellsByte (codes "kind") d s.kind
@@ -115,11 +123,16 @@ pub record SpellsState (d : Data) (s : TreeState) : Type 0 where
   pub rules : SpellsMember (SpellsArray SpellsRule) (codes "rules") d s.rules
   pub claims : SpellsMember (SpellsArray SpellsPair) (codes "claims") d s.claims
 
+abbrev pub HasVersion : Bool → Data → Type 0
+HasVersion ranked d = get (codes "version") d ≡ Some (whole (version_of ranked))
+
+-- version 1 has a scale, which is no part of the automaton, and ranks
 pub record SpellsTables (d : Data) (a : TreeAutomaton) : Type 0 where
-  pub version : get (codes "version") d ≡ Some (whole 1)
-  pub scale : SpellsMember SpellsWord (codes "scale") d a.scale
+  pub ranked : Bool
+  pub version : HasVersion ranked d
+  pub scale : IsTrue ranked → HasWord (codes "scale") d
   pub roots : SpellsMember (SpellsArray SpellsWord) (codes "roots") d a.roots
-  pub corners : SpellsMember (SpellsArray SpellsCorner) (codes "corners") d a.corners
+  pub corners : SpellsMember (SpellsArray (SpellsCorner ranked)) (codes "corners") d a.corners
   pub states : SpellsMember (SpellsArray SpellsState) (codes "states") d a.states
 
 -- the bytes are JSON text of this value

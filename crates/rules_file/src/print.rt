@@ -45,9 +45,8 @@ fn to_json(alloc: Global, a: &Automaton) -> Result<Value, AllocError>
     json!(in alloc; {
         "corners": corners,
         "roots": roots,
-        "scale": a.scale,
         "states": states,
-        "version": 1u32
+        "version": 2u32
     })
 }
 
@@ -116,7 +115,7 @@ impl Printed for Corner {
     fn print(&self, alloc: Global) -> Result<Value, AllocError> {
         let offsets = list(alloc, &self.offsets)?;
         let outer = self.outer.print(alloc)?;
-        json!(in alloc; {"h": offsets, "outer": outer, "rank": self.rank})
+        json!(in alloc; {"h": offsets, "outer": outer})
     }
 }
 

@@ -1,13 +1,12 @@
 //! Reading a rules file.
-ghost use Rattle.std.specs.Prelude.{◌≡◌, ◌-◌, ◌^◌, ◌<◌, ◌↔◌, ◌⊎◌, ℕ, length, codes, Some, Err, IsTrue, IfOk, IfErr, MatchResult};
+ghost use Rattle.std.specs.Prelude.{◌≡◌, ◌-◌, ◌^◌, ◌<◌, ◌⊎◌, ℕ, length, codes, Bool, IsTrue, Err, IfSome, IfNone, IfOk, IfErr, MatchResult};
 ghost use Rattle.tree_model.specs.Automata.{TreeAutomaton};
 ghost use Rattle.serde_json.specs.Data.{Data};
-ghost use Rattle.serde_json.specs.Find.{get};
 ghost use Rattle.serde_json.specs.View.{view};
-ghost use Rattle.rules_file.specs.Spelling.{whole, SpellsArray, SpellsMember, SpellsTables, IsTextOf, IsRulesFile};
-ghost use Rattle.rules_file.specs.Faults.{IsFirstFault, Refuses, RefusesTable, HasSmallArrays};
+ghost use Rattle.rules_file.specs.Spelling.{SpellsArray, SpellsMember, HasWord, HasVersion, SpellsTables, IsTextOf, IsRulesFile};
+ghost use Rattle.rules_file.specs.Faults.{IsFirstFault, IsNoObject, Refuses, RefusesTable, HasSmallArrays};
 
-use crate::entry::{Entry, array, member, read_each};
+use crate::entry::{Entry, array, has_word, read_each};
 use crate::fault::{Part, RulesFault};
 use rules_data::Automaton;
 use serde_json::{Category, Value};
@@ -45,32 +44,48 @@ fn read_tables(alloc: Global, json: &Value) -> Result<Automaton, RulesFault>
     ensures ok { IfOk result (λ a. SpellsTables (view json.now) a) }
     ensures err { IfErr result (λ e. Refuses (view json.now) e) }
 {
-    if !json.is_object() {
-        return Err(misshapen(Part::Whole));
-    }
-    if !is_first_version(json) {
-        return Err(misshapen(Part::Version));
-    }
-    let Some(scale) = member(alloc, json, "scale")? else {
-        return Err(misshapen(Part::Scale));
-    };
-    let roots = table(alloc, json, "roots", Part::Roots, Part::Roots)?;
-    let corners = table(alloc, json, "corners", Part::Corners, Part::Corner)?;
-    let states = table(alloc, json, "states", Part::States, Part::State)?;
+    let ranked = head(json)?;
+    let roots = table(alloc, json, "roots", ranked, Part::Roots, Part::Roots)?;
+    let corners = table(alloc, json, "corners", ranked, Part::Corners, Part::Corner)?;
+    let states = table(alloc, json, "states", ranked, Part::States, Part::State)?;
     Ok(Automaton {
         states,
         corners,
         roots,
-        scale,
     })
 }
 
-fn is_first_version(json: &Value) -> bool
-    ensures { IsTrue result ↔ (get (codes "version") (view json.now) ≡ Some (whole 1)) }
+/// Whether the file has ranks. It fails where the value is no object, is of neither version, or has
+/// no scale in version 1.
+fn head(json: &Value) -> Result<bool, RulesFault>
+    ensures object { IfOk result (λ _. ¬ IsNoObject (view json.now)) }
+    ensures version { IfOk result (λ ranked. HasVersion ranked (view json.now)) }
+    ensures scale { IfOk result
+        (λ ranked. IsTrue ranked → HasWord (codes "scale") (view json.now)) }
+    ensures err { IfErr result (λ e. Refuses (view json.now) e) }
 {
-    match json.get("version") {
-        Some(version) => version.as_u64() == Some(1),
-        None => false,
+    if !json.is_object() {
+        return Err(misshapen(Part::Whole));
+    }
+    let Some(ranked) = is_ranked(json) else {
+        return Err(misshapen(Part::Version));
+    };
+    if ranked && !has_word(json, "scale") {
+        return Err(misshapen(Part::Scale));
+    }
+    Ok(ranked)
+}
+
+/// Whether the file has a scale and ranks, being of version 1, or none, being of version 2. None
+/// where it is of neither.
+fn is_ranked(json: &Value) -> Option<bool>
+    ensures some { IfSome result (λ r. HasVersion r (view json.now)) }
+    ensures none { IfNone result ((r : Bool) → ¬ HasVersion r (view json.now)) }
+{
+    match json.get("version")?.as_u64()? {
+        1 => Some(true),
+        2 => Some(false),
+        _ => None,
     }
 }
 
@@ -80,19 +95,20 @@ fn table<T: Entry>(
     alloc: Global,
     json: &Value,
     name: &str,
+    ranked: bool,
     whole_part: Part,
     entry_part: Part,
 ) -> Result<Vec<T>, RulesFault>
     requires { HasSmallArrays (view json.now) }
     ensures ok { IfOk result
-        (λ v. SpellsMember (SpellsArray T.spells) name.now (view json.now) v.items) }
+        (λ v. SpellsMember (SpellsArray (T.spells ranked)) name.now (view json.now) v.items) }
     ensures err { IfErr result
-        (λ e. RefusesTable T.spells name.now (view json.now) whole_part entry_part e) }
+        (λ e. RefusesTable (T.spells ranked) name.now (view json.now) whole_part entry_part e) }
 {
     let Some(entries) = array(json, name) else {
         return Err(misshapen(whole_part));
     };
-    match read_each(alloc, entries)? {
+    match read_each(alloc, entries, ranked)? {
         Ok(values) => Ok(values),
         Err(at) => Err(RulesFault::Shape {
             part: entry_part,

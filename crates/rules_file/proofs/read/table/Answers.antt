@@ -9,7 +9,7 @@ pub returns-in_default-clause-err : goal.returns-in_default-clause-err
 returns-in_default-clause-err g c = rw c.misshapen.ensures (no_array c.in_default.ensures.none)
 
 pub returns-in_err-values-clause-err : goal.returns-in_err-values-clause-err
-returns-in_err-values-clause-err g c = memory_refuses g.T.Entry.spells c.args.name.now (view c.args.json.now) c.args.whole_part c.args.entry_part c.from_residual.result c.from_residual.ensures.1
+returns-in_err-values-clause-err g c = memory_refuses (g.T.Entry.spells c.args.ranked) c.args.name.now (view c.args.json.now) c.args.whole_part c.args.entry_part c.from_residual.result c.from_residual.ensures.1
 
 pub overflow_cast-result : goal.overflow_cast-result
 overflow_cast-result g c =

@@ -6,6 +6,3 @@ returns-in_default-clause-none c = λ g spelt. (rw c.in_default.is at c.in_ok-of
 
 pub returns-in_default-2-clause-none : goal.returns-in_default-2-clause-none
 returns-in_default-2-clause-none c = λ g spelt. (rw c.in_default-2.is at c.in_ok-outer.ensures.none) g.outer spelt.outer
-
-pub returns-in_default-3-clause-none : goal.returns-in_default-3-clause-none
-returns-in_default-3-clause-none c = λ g spelt. (rw c.in_default-3.is at c.in_ok-rank.ensures.none) g.rank spelt.rank
