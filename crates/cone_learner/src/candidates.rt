@@ -2,12 +2,10 @@
 ghost use Rattle.std.specs.Prelude.{◌≡◌, None, IfOk, IfSome};
 ghost use Rattle.cone_learner.specs.Candidates.{AreAccepted};
 
-use crate::limits::{FEW_TYPES, HORIZONS, LOOKS, MOST_CORNERS};
+use crate::limits::{FEW_TYPES, HORIZONS, LOOKS};
 use crate::refining::Open;
 use cone_types::{ConeType, coarsest};
 use corner_congruence::{corner_types, merged};
-use least_ranks::least_ranks;
-use rules_data::Automaton;
 use std::alloc::{AllocError, Global};
 use structure_check::{Rules, first_broken};
 use tile_kinds::Tessellation;
@@ -46,21 +44,6 @@ impl Candidate {
     }
 }
 
-/// Gives the corner types their least ranks. Answers false where there are none.
-fn rank(alloc: Global, automaton: &mut Automaton) -> Result<bool, AllocError> {
-    if automaton.corners.len() > MOST_CORNERS {
-        return Ok(false);
-    }
-    let Some(ranks) = least_ranks(alloc, &automaton.corners)? else {
-        return Ok(false);
-    };
-    for (corner, rank) in automaton.corners.iter_mut().zip(ranks) {
-        corner.rank = rank;
-    }
-    automaton.scale = (automaton.corners.len() as u32).max(1);
-    Ok(true)
-}
-
 /// The rules that a base automaton and the corner types that belong to it make, if they are
 /// accepted.
 fn accepted(
@@ -73,10 +56,7 @@ fn accepted(
     let Some(fine) = corner_types(alloc, tess, types)? else {
         return Ok(None);
     };
-    let mut automaton = merged(alloc, &fine)?;
-    if !rank(alloc, &mut automaton)? {
-        return Ok(None);
-    }
+    let automaton = merged(alloc, &fine)?;
     if first_broken(tess, &automaton).is_some() {
         return Ok(None);
     }

@@ -11,6 +11,3 @@ mod limits;
 mod refining;
 
 pub use learner::{ConeAnswer, learn_cones};
-
-#[cfg(test)]
-mod tests;

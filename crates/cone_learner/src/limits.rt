@@ -24,14 +24,11 @@ pub(crate) fn looks_worth_reading(types: usize) -> usize {
     types.saturating_mul(types) / 100_000
 }
 
-/// The most corner types that are ranked, as many as rules may have.
-pub(crate) const MOST_CORNERS: usize = 20_000;
-
 /// The horizons to which corners are looked at, where no horizon is enough without.
 pub(crate) const HORIZONS: [u32; 7] = [0, 1, 2, 4, 8, 16, 32];
 
-/// As many cone types as rules may have states, and as many open corners as give enough to look at
-/// in one round.
+/// The most cone types that corners are looked at with, and as many open corners as give enough to
+/// look at in one round.
 pub(crate) const LOOKS: Limits = Limits {
     types: 20_000,
     open: 40,

@@ -1,5 +1,5 @@
 -- Automata with fewer states and corner types.
-use Rattle.std.specs.Prelude.{◌≡◌, ◌≤◌, ℕ, List, length, map, min, slice_index_or}
+use Rattle.std.specs.Prelude.{◌≡◌, ◌≤◌, ℕ, List, length, map, slice_index_or}
 use Rattle.tree_model.specs.declared.Claim.{Claim}
 use Rattle.tree_model.specs.Automata.{TreeState, CornerType, TreeAutomaton}
 use Rattle.cone_types.specs.Cones.{renamed_rule}
@@ -12,10 +12,10 @@ abbrev pub renamed_claim : List ℕ → Claim → Claim
 renamed_claim classes claim =
     record { corner = slice_index_or classes claim.corner claim.corner; place = claim.place }
 
--- A corner type with the class of its outer corner as its number, and no rank.
+-- A corner type with the class of its outer corner as its number.
 abbrev pub renamed_corner : List ℕ → CornerType → CornerType
 renamed_corner classes g =
-    record { offsets = g.offsets; outer = renamed_claim classes g.outer; rank = 0 }
+    record { offsets = g.offsets; outer = renamed_claim classes g.outer }
 
 -- A state with the classes of its children and of its corner types as their numbers.
 abbrev pub renamed_state : (classes corner_classes : List ℕ) → TreeState → TreeState
@@ -41,6 +41,5 @@ pub record IsMerged (a m : TreeAutomaton) : Type 0 where
       a.states m.states
   pub corners : StandForClasses (renamed_corner corner_classes) corner_classes a.corners m.corners
   pub roots : m.roots ≡ map (renamed_root state_classes) a.roots
-  pub scale : m.scale ≡ min (length m.corners) 65536
   pub few_states : length m.states ≤ length a.states
   pub few_corners : length m.corners ≤ length a.corners

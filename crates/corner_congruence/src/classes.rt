@@ -1,6 +1,5 @@
 // The classes of corners, and the corner types that they are.
-ghost use Rattle.std.specs.Prelude.{◌≡◌, ◌≤◌, length, All, IfOk};
-ghost use Rattle.tree_model.specs.Automata.{CornerType};
+ghost use Rattle.std.specs.Prelude.{◌≤◌, length, IfOk};
 
 use crate::edges::KeyEdge;
 use crate::failure::Failure;
@@ -151,12 +150,10 @@ fn offsets(alloc: Global, class: &CornerClass) -> Result<Vec<i8>, Failure> {
 
 /// The corner type of a class, of which the outer corner and all depths must be known.
 fn corner_type(alloc: Global, class: &CornerClass) -> Result<Corner, Failure>
-    ensures { IfOk result (λ g. g.rank ≡ 0) }
 {
     Ok(Corner {
         offsets: offsets(alloc, class)?,
         outer: class.outer.ok_or(Failure::Contradiction)?,
-        rank: 0,
     })
 }
 
@@ -164,7 +161,6 @@ fn corner_type(alloc: Global, class: &CornerClass) -> Result<Corner, Failure>
 fn corner_types_of(alloc: Global, classes: &[CornerClass]) -> Result<Vec<Corner>, Failure>
     ensures some { IfOk result (λ v. 1 ≤ length v.items) }
     ensures few { IfOk result (λ v. length v.items ≤ 20000) }
-    ensures ranks { IfOk result (λ v. All (λ (g : CornerType). g.rank ≡ 0) v.items) }
 {
     if classes.is_empty() || classes.len() > MOST_CORNERS {
         return Err(Failure::Contradiction);
@@ -185,7 +181,6 @@ pub(crate) fn all_corners(
 ) -> Result<(Vec<Corner>, Classes), Failure>
     ensures some { IfOk result (λ v. 1 ≤ length v.0.items) }
     ensures few { IfOk result (λ v. length v.0.items ≤ 20000) }
-    ensures ranks { IfOk result (λ v. All (λ (g : CornerType). g.rank ≡ 0) v.0.items) }
 {
     if sets.count() as usize > MOST_CORNERS {
         return Err(Failure::Contradiction);

@@ -26,12 +26,10 @@ fn automaton(alloc: Global, tess: &Tessellation, types: &[ConeType]) -> Result<A
     tie_children(&mut sets, &row, types)?;
     tie_all(alloc, &mut sets, &row, &edges)?;
     let (corners, classes) = all_corners(alloc, &mut sets, &row, &edges)?;
-    let scale = corners.len() as u32;
     Ok(Automaton {
         states: all_states(alloc, &classes, &row, types)?,
         corners,
         roots: all_roots(alloc, tess.kinds())?,
-        scale,
     })
 }
 
@@ -46,9 +44,9 @@ fn automaton(alloc: Global, tess: &Tessellation, types: &[ConeType]) -> Result<A
 /// None where this contradicts itself: where a corner would have two places, or a place two depths,
 /// or corners of one type two valences, or where a place of a corner type has no tile. None too
 /// where a cone type has no type of the tessellation, or too few or too many rules, where a child
-/// or a root is missing, where there are over 20,000 cone types or corner types, and where an
-/// offset is out of the range of an `i8`. All ranks are 0, and the scale is the number of corner
-/// types. Whether the automaton meets the conditions is not said: `structure_check` tells.
+/// or a root is missing, where there are over 100,000 cone types or 20,000 corner types, and
+/// where an offset is out of the range of an `i8`. Whether the automaton meets the conditions is not
+/// said: `structure_check` tells.
 ///
 /// # Errors
 ///

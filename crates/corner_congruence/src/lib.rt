@@ -13,6 +13,3 @@ mod states;
 
 pub use congruence::corner_types;
 pub use merging::merged;
-
-#[cfg(test)]
-mod tests;

@@ -9,9 +9,6 @@ use cone_types::{class_number, coarsest_partition, renamed_rules};
 use rules_data::{Automaton, Claim, Corner, State};
 use std::alloc::{AllocError, Global};
 
-/// The greatest scale of an automaton.
-const GREATEST_SCALE: usize = 65_536;
-
 /// A claim, with the class of the corner type as its number.
 fn renamed(claim: Claim, classes: &[usize]) -> Claim
     requires { KeepsLow classes.now }
@@ -39,7 +36,7 @@ fn renamed_claims(
     Ok(all)
 }
 
-/// The corner type with the class of its outer corner as its number, and no rank.
+/// The corner type with the class of its outer corner as its number.
 fn renamed_type(alloc: Global, corner: &Corner, classes: &[usize]) -> Result<Corner, AllocError>
     requires { KeepsLow classes.now }
     ensures { IfOk result (λ g. g ≡ renamed_corner classes.now corner.now) }
@@ -47,7 +44,6 @@ fn renamed_type(alloc: Global, corner: &Corner, classes: &[usize]) -> Result<Cor
     Ok(Corner {
         offsets: Vec::from_slice(alloc, &corner.offsets)?,
         outer: renamed(corner.outer, classes),
-        rank: 0,
     })
 }
 
@@ -132,8 +128,7 @@ fn merged_roots(alloc: Global, roots: &[u32], classes: &[usize]) -> Result<Vec<u
 
 /// The coarsest automaton with the same tree and the same corners: corner types with the same
 /// offsets whose outer corners are alike become one, and then states with the same kind, off, rules
-/// and claims over these. The first states, one for each root, stay apart. All ranks are 0, and the
-/// scale is the number of corner types, at most 65,536.
+/// and claims over these. The first states, one for each root, stay apart.
 ///
 /// # Errors
 ///
@@ -150,12 +145,9 @@ pub fn merged(alloc: Global, a: &Automaton) -> Result<Automaton, AllocError>
         corner_classes: &corner_classes,
     };
     let classes = coarsest_partition(alloc, &state_table, a.states.len(), a.roots.len())?;
-    let corners = merged_corners(alloc, &a.corners, &corner_classes)?;
-    let scale = corners.len().min(GREATEST_SCALE) as u32;
     Ok(Automaton {
         states: merged_states(alloc, &a.states, &classes, &corner_classes)?,
-        corners,
+        corners: merged_corners(alloc, &a.corners, &corner_classes)?,
         roots: merged_roots(alloc, &a.roots, &classes)?,
-        scale,
     })
 }

@@ -5,7 +5,7 @@ use std::alloc::Global;
 use tile_kinds::{DartType, Tessellation};
 
 /// The most cone types, and so the most states.
-pub(crate) const MOST_STATES: usize = 20_000;
+pub(crate) const MOST_STATES: usize = 100_000;
 
 /// The corners of a tile, which stand next to each other in the row. Corner `i` lies between sides
 /// `i` and `i + 1`.

@@ -11,7 +11,7 @@ use Rattle.regular_maker.proofs.Over.{IsOver, over_of, symbol_of}
 use Rattle.regular_maker.proofs.TableCondition.{closed_table}
 use Rattle.regular_maker.proofs.SideConditions.{parent_rule, child_type, claim_valence, first_place_side, last_place_side, outer_before_side, outer_behind_side}
 use Rattle.regular_maker.proofs.ChildConditions.{keeps_claims}
-use Rattle.regular_maker.proofs.CornerConditions.{one_change, small_change, greater_outer}
+use Rattle.regular_maker.proofs.CornerConditions.{one_change, small_change, falling_cycles}
 
 all_conditions : (p q : ℕ) (shape : IsShape p q) (kinds : List TileKind) → IsOver p q kinds
     → IsAccepted kinds (regular_automaton p q)
@@ -27,7 +27,7 @@ all_conditions p q shape kinds over = record {
   c9 = keeps_claims p q shape kinds over;
   c10 = λ g h. one_change p q shape g (omega (arith, h, corner_count p q));
   c11 = λ g h. small_change p q shape g (omega (arith, h, corner_count p q));
-  c12 = λ g h. greater_outer p q shape g (omega (arith, h, corner_count p q));
+  c12 = λ g h. falling_cycles p q shape g (omega (arith, h, corner_count p q));
 }
 
 pub accepted : (kinds : List TileKind) → IsValid kinds → IsRegular kinds

@@ -1,17 +1,18 @@
--- The conditions on corner types: one change across the key edge, a small one, and a greater rank
--- at the outer corner.
-use Rattle.std.proofs.Common.{◌≡◌, ℕ, suc, ◌+◌, ◌-◌, ◌<◌, ◌≤◌, inl, inr, refl, ap, ap₂, ◌∙◌, arith, ℤ, pos, ◌+ℤ◌, ◌-ℤ◌}
-use Rattle.std.specs.Prelude.{◌*ℤ◌, nat_abs}
+-- The conditions on corner types: one change across the key edge, a small one, and cycles of outer
+-- links that fall.
+use Rattle.std.proofs.Common.{◌≡◌, ℕ, zero, suc, ◌+◌, ◌-◌, ◌<◌, ◌≤◌, inl, inr, refl, sym, ap, ap₂, ◌∙◌, subst, arith, ℤ, pos, ◌+ℤ◌, ◌-ℤ◌}
+use Rattle.std.specs.Prelude.{◌≤ℤ◌, ◌<ℤ◌, nat_abs}
 use Rattle.std.proofs.lemmas.Int.{ints}
 use Rattle.std.proofs.lemmas.Bool.{cases_lt, cases_eq}
-use Rattle.tree_model.specs.Automata.{TreeAutomaton, offset, corner_valence, outer, rank}
+use Rattle.tree_model.specs.Automata.{TreeAutomaton, offset, corner_valence, outer}
+use Rattle.tree_model.specs.OuterLinks.{led, entered_sum}
 use Rattle.tree_model.specs.declared.Claim.{Claim}
-use Rattle.tree_model.specs.Conditions.{HasOffsets, HasOuter, HasOneChange, HasSmallChange, HasGreaterOuter}
+use Rattle.tree_model.specs.Conditions.{HasOffsets, HasOuter, HasOneChange, HasSmallChange, HasFallingCycles}
 use Rattle.regular_maker.specs.Corners.{half, parity, depth_at, outer_of}
 use Rattle.regular_maker.specs.Automaton.{regular_automaton}
 use Rattle.regular_maker.proofs.Shapes.{IsShape, half_least}
 use Rattle.regular_maker.proofs.Children.{depth_down, depth_up}
-use Rattle.regular_maker.proofs.Tables.{corner_count, valence_is, offset_is, outer_is, rank_is}
+use Rattle.regular_maker.proofs.Tables.{corner_count, valence_is, offset_is, outer_is}
 
 module _ (p q : ℕ) (shape : IsShape p q) where
   abbrev A : TreeAutomaton
@@ -135,47 +136,39 @@ module _ (p q : ℕ) (shape : IsShape p q) where
     omega (arith, ints, reads_last g h, shape.parity),
   )
 
-  scaled_even : (z : ℤ) → parity q ≡ 0 → pos (suc (parity q)) *ℤ z ≡ z
-  scaled_even z e = let one : pos 1 *ℤ z ≡ z = omega (arith, ints) in ap (λ n. pos (suc n) *ℤ z) e
-      ∙ one
+  -- along outer links no offset is entered that is above 0
+  none_rises : (n g : ℕ) → g ≤ parity q → entered_sum A n g ≤ℤ pos 0
+  none_rises zero g h = omega (arith, ints)
+  none_rises (suc n) g h =
+      let on : (outer A g).corner ≤ parity q = omega (arith, reads_corner g h) in
+      omega (arith, ints, reads_entered g h, none_rises n (outer A g).corner on)
 
-  scaled_odd : (z : ℤ) → parity q ≡ 1 → pos (suc (parity q)) *ℤ z ≡ z +ℤ z
-  scaled_odd z e = let two : pos 2 *ℤ z ≡ z +ℤ z
-      = omega (arith, ints) in ap (λ n. pos (suc n) *ℤ z) e ∙ two
+  -- the one that is entered from corner type 0 is below 0
+  zero_falls : (n : ℕ) → entered_sum A (suc n) 0 <ℤ pos 0
+  zero_falls n =
+      let h : 0 ≤ parity q = omega arith in
+      let on : (outer A 0).corner ≤ parity q = omega (arith, reads_corner 0 h) in
+      omega (
+        arith,
+        ints,
+        reads_entered 0 h,
+        none_rises n (outer A 0).corner on,
+        shape.tiles,
+        shape.halves,
+        shape.parity,
+        half_least p q shape,
+      )
 
-  pub greater_outer : (g : ℕ) → g ≤ parity q → HasGreaterOuter A g
-  greater_outer g h =
-      let z = offset A (outer A g).corner (outer A g).place in
-      let entered = reads_entered g h in
-      let near = rank_is p q g h in
-      let far : rank A (outer A g).corner ≡ parity q - (parity q - g)
-      = ap (rank A) (reads_corner g h) ∙ rank_is p q (parity q - g) (outer_known g) in
-      elim (cases_eq (parity q) 0) [
-        | inl even ↦ omega (
-          arith,
-          ints,
-          scaled_even z even,
-          entered,
-          near,
-          far,
-          even,
-          h,
-          shape.tiles,
-          shape.halves,
-        )
-        | inr other ↦
-            let odd : parity q ≡ 1 = omega (arith, other, shape.parity) in
-            omega (
-              arith,
-              ints,
-              scaled_odd z odd,
-              entered,
-              near,
-              far,
-              odd,
-              h,
-              shape.tiles,
-              shape.halves,
-              half_least p q shape,
-            )
-      ]
+  -- a cycle through corner type 1 leads through corner type 0
+  one_falls : (n : ℕ) → 1 ≤ parity q → led A (suc n) 1 ≡ 1 → entered_sum A (suc n) 1 <ℤ pos 0
+  one_falls zero h e = absurd (omega (arith, e, reads_corner 1 h, shape.parity))
+  one_falls (suc n) h e =
+      let there : (outer A 1).corner ≡ 0 = omega (arith, reads_corner 1 h, shape.parity) in
+      let rest : entered_sum A (suc n) (outer A 1).corner <ℤ pos 0
+      = subst (λ g. entered_sum A (suc n) g <ℤ pos 0) (sym there) (zero_falls n) in
+      omega (arith, ints, reads_entered 1 h, rest)
+
+  pub falling_cycles : (g : ℕ) → g ≤ parity q → HasFallingCycles A g
+  falling_cycles zero h = λ n e. zero_falls n
+  falling_cycles (suc zero) h = λ n e. one_falls n h e
+  falling_cycles (suc (suc g)) h = absurd (omega (arith, h, shape.parity))

@@ -86,7 +86,6 @@ module _ (p q : ℕ) (shape : IsShape p q) (kinds : List TileKind) (over : IsOve
 
   limits : HasLimits kinds B
   limits = record {
-    scale = (omega arith, omega (arith, shape.parity));
     states = (omega (arith, state_count p q), omega (arith, state_count p q, all_few p q shape));
     corners = (omega (arith, corner_count p q), omega (arith, corner_count p q, shape.parity));
     roots = sym over.count;

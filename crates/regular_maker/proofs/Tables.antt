@@ -5,7 +5,7 @@ use Rattle.std.proofs.lemmas.Bool.{cases_lt, cases_eq, eq-eqb, ne_eqb, le-leb, l
 use Rattle.std.proofs.lemmas.List.{get_or-replicate, length-replicate}
 use Rattle.tree_model.specs.declared.Rule.{Rule}
 use Rattle.tree_model.specs.declared.Rule.TheVariants.{Parent, Child, Left, Right}
-use Rattle.tree_model.specs.Automata.{TreeState, TreeAutomaton, CornerType, no_state, no_corner, no_claim, state_at, corner_at, rule_at, claim_at, offset, corner_valence, outer, rank}
+use Rattle.tree_model.specs.Automata.{TreeState, TreeAutomaton, CornerType, no_state, no_corner, no_claim, state_at, corner_at, rule_at, claim_at, offset, corner_valence, outer}
 use Rattle.tree_model.specs.Conditions.{IsRoot}
 use Rattle.regular_maker.specs.Corners.{parity, depth_at, outer_of, corner_type}
 use Rattle.regular_maker.specs.States.{lowest, rights, lefts, pair_claim, child_pair}
@@ -111,10 +111,6 @@ module _ (p q : ℕ) where
   pub outer_is : (g : ℕ) → g ≤ parity q → outer A g ≡ outer_of q g
   unfolding outer
   outer_is g h = ap (λ (c : CornerType). c.outer) (corner_is g h)
-
-  pub rank_is : (g : ℕ) → g ≤ parity q → rank A g ≡ parity q - g
-  unfolding rank
-  rank_is g h = ap (λ (c : CornerType). c.rank) (corner_is g h)
 
   -- the only root is state 0
   pub root_zero : IsRoot A 0

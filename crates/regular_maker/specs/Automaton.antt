@@ -95,5 +95,4 @@ regular_automaton p q = record {
   states = all_states p q (all_pairs p q);
   corners = corner_types q;
   roots = 0 ∷ [];
-  scale = suc (parity q);
 }

@@ -1,11 +1,10 @@
 -- The corner types of the regular tessellation {p,q}. They depend on q alone. Here m is q divided
 -- by 2 and rounded down.
 --
--- | q    | Type | Offsets                                        | Outer      | Rank | Scale |
--- | even | 0    | from 0 down to -m by ones, then up to -1       | (0, m - 1) | 0    | 1     |
--- | odd  | 0    | from 0 down to -m by ones, then up to 0        | (1, m)     | 1    | 2     |
--- | odd  | 1    | from 0 down to -m by ones, then -m again and   | (0, m - 1) | 0    | 2     |
--- |      |      | up to -1                                       |            |      |       |
+-- | q    | Type | Offsets                                                          | Outer      |
+-- | even | 0    | from 0 down to -m by ones, then up to -1                         | (0, m - 1) |
+-- | odd  | 0    | from 0 down to -m by ones, then up to 0                          | (1, m)     |
+-- | odd  | 1    | from 0 down to -m by ones, then -m again and up to -1            | (0, m - 1) |
 use Rattle.std.specs.Prelude.{ℕ, zero, suc, ◌+◌, ◌-◌, ◌*◌, ◌/◌, ◌%◌, List, [], ◌∷◌, ◌++◌, ℤ, pos, ◌-ℤ◌, nat_le, if◌then◌else◌}
 use Rattle.tree_model.specs.declared.Claim.{Claim}
 use Rattle.tree_model.specs.Automata.{CornerType}
@@ -37,7 +36,6 @@ abbrev pub corner_type : ℕ → ℕ → CornerType
 corner_type q g = record {
   offsets = listed (depth_at q g) q;
   outer = outer_of q g;
-  rank = parity q - g;
 }
 
 abbrev pub corner_types : ℕ → List CornerType

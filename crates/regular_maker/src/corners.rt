@@ -29,7 +29,6 @@ fn corner_type(alloc: Global, symbol: Symbol, corner: u32) -> Result<Corner, All
     requires corner { corner ≤ parity symbol.q }
     ensures { IfOk result (λ g. g ≡ corner_type symbol.q corner) }
 {
-    let parity = symbol.parity();
     let mut offsets = Vec::with_capacity(alloc, symbol.q as usize)?;
     for t in 0..symbol.q {
         offsets.push(depth_at(symbol, corner, t))?;
@@ -37,7 +36,6 @@ fn corner_type(alloc: Global, symbol: Symbol, corner: u32) -> Result<Corner, All
     Ok(Corner {
         offsets,
         outer: symbol.outer(corner),
-        rank: parity - corner,
     })
 }
 

@@ -12,6 +12,3 @@ mod symbol;
 
 pub use fault::RegFault;
 pub use maker::regular;
-
-#[cfg(test)]
-mod tests;

@@ -25,7 +25,6 @@ fn automaton(alloc: Global, symbol: Symbol) -> Result<Automaton, AllocError>
         states: all_states(alloc, symbol, &pairs)?,
         corners: corner_types(alloc, symbol)?,
         roots: vec![in alloc; 0]?,
-        scale: symbol.parity() + 1,
     })
 }
 

@@ -1,22 +1,17 @@
 -- What is read with readers, and the automata that it makes.
-use Rattle.std.proofs.Common.{◌≡◌, ℕ, suc, ◌+◌, ◌<◌, List, map, length, slice_index_or, Some, None, sym, ap, ◌∙◌, subst, inl, inr, arith}
+use Rattle.std.proofs.Common.{◌≡◌, ℕ, ◌+◌, ◌<◌, List, length, slice_index_or, Some, None, sym, ap, ◌∙◌, subst, inl, inr, arith}
 use Rattle.std.proofs.lemmas.Bool.{cases_lt}
 use Rattle.std.proofs.lemmas.List.{get_or_past, length-map}
-use Rattle.tree_model.specs.Automata.{TreeAutomaton, CornerType, no_state, no_corner, state_at, corner_at, root_at}
+use Rattle.tree_model.specs.Automata.{TreeAutomaton, no_state, no_corner, state_at, corner_at, root_at}
 use Rattle.look_classes.specs.Tree.{dart_of, sides_of}
 use Rattle.look_classes.specs.Looks.{corner_look}
 use Rattle.look_classes.specs.Numbers.{entry}
-use Rattle.look_classes.specs.Classes.{ClassLists, sides_below, made}
-use Rattle.least_ranks.specs.Ranks.{MeetRanks, AreLeastRanks}
+use Rattle.look_classes.specs.Classes.{sides_below, made}
 use Rattle.state_candidates.specs.Reading.{IsFirstWith, corner_index, corner_of}
 use Rattle.state_candidates.specs.Candidates.{corners_before}
 use Rattle.state_candidates.specs.Readers.{ReaderState, IsReader, state_read, corner_read, tables_of}
 use Rattle.state_candidates.specs.Gathered.{reader_at, lists_of, AreReaders, HaveStates, HaveCorners, HaveRoots, LackStates, LackCorners, IsAssembled}
 use Rattle.state_candidates.proofs.Sides.{side_at, side_find}
-use Rattle.state_candidates.proofs.Gathering.{lists_long, lists_read}
-use Rattle.state_candidates.proofs.Numbered.{first_with}
-use Rattle.state_candidates.proofs.Having.{find_part, have_same}
-use Rattle.state_candidates.proofs.Tables.{AreSameTables, tables_below, meet_same}
 
 -- what is read of a side, by its index
 corner_side : (v : ReaderState) (c i : ℕ) → c < made v.region → i < sides_of v.region c → corner_read v (corner_index v.region c i) ≡ corner_of v.region v.lists v.first_corner (dart_of v.region c i)
@@ -62,27 +57,10 @@ module _ (rs : List ReaderState) (ok : AreReaders rs) where
       let there = (assembled_corners a h).each lack.number x.number x.at lack.within x.is_first in
       absurd (cc (there, x.none))
 
-  -- corner types that are read are those of each automaton
-  pub same_tables : (corners : List CornerType) → HaveCorners rs corners (length rs) → (a : TreeAutomaton) → IsAssembled rs a → AreSameTables a.corners corners
-  same_tables corners have a h = tables_below a.corners corners (h.corner_count ∙ sym have.long) one
-    where
-      one : (g : ℕ) → g < length a.corners → tables_of (slice_index_or a.corners g no_corner) ≡ tables_of (slice_index_or corners g no_corner)
-      one g below =
-          let p = find_part (λ x. x.corner_count) (lists_of rs) (length rs) (omega (arith, lists_long rs)) g (omega (arith, below, h.corner_count)) in
-          let v = reader_at rs p.part in
-          let few : p.number < v.lists.corner_count = subst (λ (x : ClassLists). p.number < x.corner_count) (lists_read rs p.part p.within) p.below in
-          let some = ((ok p.part p.within).reader.classes.corners.counted p.number).0 few in
-          let first = first_with v.lists.corners p.number (suc some.0) some.0 (omega arith) some.1 in
-          have_same (λ k. (reader_at rs k).lists.corners) (λ k. corner_read (reader_at rs k)) tables_of (corners_before (lists_of rs)) no_corner a.corners corners (length rs) (assembled_corners a h) have g p.part p.number first.0 p.within p.is first.1
-
-  pub none_without_ranks : (corners : List CornerType) → HaveCorners rs corners (length rs) → ((ranks : List ℕ) → MeetRanks corners ranks → ⊥) → (a : TreeAutomaton) → IsAssembled rs a → ⊥
-  none_without_ranks corners have none a h = none (map (λ g. g.rank) a.corners) (meet_same a.corners corners (same_tables corners have a h) (map (λ g. g.rank) a.corners) h.ranks.meet)
-
   -- what is read makes an automaton
-  pub assembled : (a : TreeAutomaton) → HaveRoots rs a.roots (length rs) → HaveStates rs a.states (length rs) → HaveCorners rs a.corners (length rs) → a.scale ≡ length a.corners
-      → AreLeastRanks a.corners (map (λ g. g.rank) a.corners) → IsAssembled rs a
+  pub assembled : (a : TreeAutomaton) → HaveRoots rs a.roots (length rs) → HaveStates rs a.states (length rs) → HaveCorners rs a.corners (length rs) → IsAssembled rs a
   unfolding state_at corner_at root_at
-  assembled a roots states corners scale ranks = record {
+  assembled a roots states corners = record {
     read = λ k less.
         let v = reader_at rs k in
         record {
@@ -95,12 +73,4 @@ module _ (rs : List ReaderState) (ok : AreReaders rs) where
     state_count = states.long;
     corner_count = corners.long;
     root_count = roots.long;
-    scale = scale;
-    ranks = ranks;
   }
-
-pub have_tables : (rs : List ReaderState) (xs ys : List CornerType) (n : ℕ) → AreSameTables xs ys → HaveCorners rs xs n → HaveCorners rs ys n
-have_tables rs xs ys n same h = record {
-  long = sym same.long ∙ h.long;
-  each = λ k m i less first. h.each k m i less first ∙ ap (λ t. Some t) (same.each (corners_before (lists_of rs) k + m));
-}

@@ -12,15 +12,15 @@ use Rattle.state_candidates.specs.Gathered.{reader_at, lists_of, AreReaders, Are
 use Rattle.state_candidates.proofs.Gathering.{before_more, lists_long, lists_read, lists_agree}
 
 -- there are not too many states and corner types in all
-few_in_all : (f : ClassLists → ℕ) (lists : List ClassLists) (n : ℕ) → n ≤ length lists → ((k : ℕ) → k < n → sum_by f (take k lists) + f (lists_at lists k) ≤ 20000) → sum_by f (take n lists) ≤ 20000
-few_in_all f lists zero within few = omega arith
-few_in_all f lists (suc n) within few = subst (λ m. sum_by f (take m lists) ≤ 20000) (add-one n) (omega (arith, before_more f lists n (omega (arith, within)), few n (omega arith)))
+few_in_all : (most : ℕ) (f : ClassLists → ℕ) (lists : List ClassLists) (n : ℕ) → n ≤ length lists → ((k : ℕ) → k < n → sum_by f (take k lists) + f (lists_at lists k) ≤ most) → sum_by f (take n lists) ≤ most
+few_in_all most f lists zero within few = omega arith
+few_in_all most f lists (suc n) within few = subst (λ m. sum_by f (take m lists) ≤ most) (add-one n) (omega (arith, before_more f lists n (omega (arith, within)), few n (omega arith)))
 
-pub few_states : (rs : List ReaderState) → AreReaders rs → states_before (lists_of rs) (length rs) ≤ 20000
-few_states rs ok = few_in_all (λ x. x.cell_count) (lists_of rs) (length rs) (omega (arith, lists_long rs)) (λ k less. omega (arith, (ok k less).reader.few_states, (ok k less).first_state, ap (λ (x : ClassLists). x.cell_count) (lists_read rs k less)))
+few_states : (rs : List ReaderState) → AreReaders rs → states_before (lists_of rs) (length rs) ≤ 100000
+few_states rs ok = few_in_all 100000 (λ x. x.cell_count) (lists_of rs) (length rs) (omega (arith, lists_long rs)) (λ k less. omega (arith, (ok k less).reader.few_states, (ok k less).first_state, ap (λ (x : ClassLists). x.cell_count) (lists_read rs k less)))
 
-pub few_corners : (rs : List ReaderState) → AreReaders rs → corners_before (lists_of rs) (length rs) ≤ 20000
-few_corners rs ok = few_in_all (λ x. x.corner_count) (lists_of rs) (length rs) (omega (arith, lists_long rs)) (λ k less. omega (arith, (ok k less).reader.few_corners, (ok k less).first_corner, ap (λ (x : ClassLists). x.corner_count) (lists_read rs k less)))
+few_corners : (rs : List ReaderState) → AreReaders rs → corners_before (lists_of rs) (length rs) ≤ 20000
+few_corners rs ok = few_in_all 20000 (λ x. x.corner_count) (lists_of rs) (length rs) (omega (arith, lists_long rs)) (λ k less. omega (arith, (ok k less).reader.few_corners, (ok k less).first_corner, ap (λ (x : ClassLists). x.corner_count) (lists_read rs k less)))
 
 -- the classes of a candidate are those of the looks
 module _ (regions : List RegionState) (h : ℕ) (looks : List LooksState) (ok : AreLooks regions h looks) (all : length looks ≡ length regions) (kinds : List TileKind) where
@@ -67,8 +67,6 @@ module _ (regions : List RegionState) (h : ℕ) (looks : List LooksState) (ok : 
           root_count = whole.root_count ∙ (many ∙ kinds_all);
           few_states = omega (arith, whole.state_count, few_states rs readers.readers_ok);
           few_corners = omega (arith, whole.corner_count, few_corners rs readers.readers_ok);
-          scale = whole.scale;
-          ranks = whole.ranks;
         }
 
     same_class_lists : (a : TreeAutomaton) (is : IsCandidate kinds regions h a) → is.lists ≡ lists_of rs
@@ -95,8 +93,6 @@ module _ (regions : List RegionState) (h : ℕ) (looks : List LooksState) (ok : 
           state_count = is.state_count ∙ (ap (λ ls. states_before ls (length regions)) same ∙ ap (states_before (lists_of rs)) (sym many));
           corner_count = is.corner_count ∙ (ap (λ ls. corners_before ls (length regions)) same ∙ ap (corners_before (lists_of rs)) (sym many));
           root_count = is.root_count ∙ (sym kinds_all ∙ sym many);
-          scale = is.scale;
-          ranks = is.ranks;
         }
 
 -- what holds of what is there, in another form

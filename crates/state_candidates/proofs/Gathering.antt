@@ -115,6 +115,6 @@ over f looks rs i long below h x mine lists ok =
 
 pub too_many : (looks : List LooksState) (rs : List ReaderState) (i : ℕ) → length rs ≡ i → i < length looks → AreReadersOf looks rs → (x : ClassLists)
     → AreClasses (looks_at looks i).horizon (looks_at looks i).region x
-    → ¬ ((states_before (lists_of rs) i + x.cell_count ≤ 20000) × (corners_before (lists_of rs) i + x.corner_count ≤ 20000)) → HasTooMany looks
+    → ¬ ((states_before (lists_of rs) i + x.cell_count ≤ 100000) × (corners_before (lists_of rs) i + x.corner_count ≤ 20000)) → HasTooMany looks
 too_many looks rs i long below h x mine many lists ok few_states few_corners =
     many (omega (arith, few_states, over (λ x. x.cell_count) looks rs i long below h x mine lists ok), omega (arith, few_corners, over (λ x. x.corner_count) looks rs i long below h x mine lists ok))

@@ -55,12 +55,6 @@ module _ {A B : Type 0} (numbers : ℕ → List (Option ℕ)) (of : ℕ → ℕ 
         ];
   }
 
-  pub have_same : (list list' : List A) (n : ℕ) → HaveRead numbers of show first none list n → HaveRead numbers of show first none list' n
-      → (g k m i : ℕ) → k < n → g ≡ first k + m → IsFirstWith (numbers k) m i → show (slice_index_or list g none) ≡ show (slice_index_or list' g none)
-  have_same list list' n h h' g k m i within is at =
-      let same = same_Some (show (slice_index_or list (first k + m) none)) (show (slice_index_or list' (first k + m) none)) (sym (h.each k m i within at) ∙ h'.each k m i within at) in
-      subst (λ j. show (slice_index_or list j none) ≡ show (slice_index_or list' j none)) (sym is) same
-
 -- a number of a reader's states is below the number of states before the next readers
 pub number_within : (f : ClassLists → ℕ) (rs : List ReaderState) (k n m : ℕ) → k < n → n ≤ length rs → m < f (reader_at rs k).lists → sum_by f (take k (lists_of rs)) + m < sum_by f (take n (lists_of rs))
 number_within f rs k n m less within below =

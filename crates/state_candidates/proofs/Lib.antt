@@ -8,7 +8,6 @@ pub mod Bases
 pub mod FirstEntries
 pub mod Gathering
 pub mod Having
-pub mod Tables
 pub mod Assembled
 pub mod Found
 pub mod OneCandidate

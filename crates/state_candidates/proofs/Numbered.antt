@@ -13,10 +13,10 @@ last_of : {P : Type 0} (i n : ℕ) → i < suc n → (i ≡ n → P) → (i < n 
 last_of i n less at below = let le : i ≤ n = omega arith in elim (eq-or-lt_of_le le) [ inl same ↦ at same | inr lower ↦ below lower ]
 
 -- a number is below their count
-pub few_numbers : {A : Type 0} (met : List (Option A)) (numbers : List (Option ℕ)) (count : ℕ) → AreNumbers met numbers count
-    → (f : ℕ) → f + count ≤ 20000 → (i : ℕ) (o : Option ℕ) → o ≡ entry numbers i → IfSome o (λ m. f + m ≤ 20000)
-few_numbers met numbers count ok f few i None is = tt
-few_numbers met numbers count ok f few i (Some m) is = let below : m < count = (ok.counted m).1 (i, sym is) in omega (arith, below, few)
+pub few_numbers : {A : Type 0} (most : ℕ) (met : List (Option A)) (numbers : List (Option ℕ)) (count : ℕ) → AreNumbers met numbers count
+    → (f : ℕ) → f + count ≤ most → (i : ℕ) (o : Option ℕ) → o ≡ entry numbers i → IfSome o (λ m. f + m ≤ most)
+few_numbers most met numbers count ok f few i None is = tt
+few_numbers most met numbers count ok f few i (Some m) is = let below : m < count = (ok.counted m).1 (i, sym is) in omega (arith, below, few)
 
 -- the first entry with a number
 pub first_with : (numbers : List (Option ℕ)) (m bound i : ℕ) → i < bound → entry numbers i ≡ Some m → (j : ℕ) × IsFirstWith numbers m j

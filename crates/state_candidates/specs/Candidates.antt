@@ -1,5 +1,5 @@
 -- Candidates: automata that are read off regions, one for each kind, to a horizon.
-use Rattle.std.specs.Prelude.{◌≡◌, ℕ, ◌+◌, ◌<◌, ◌≤◌, List, [], map, length, take, sum_by, slice_index_or, Some}
+use Rattle.std.specs.Prelude.{◌≡◌, ℕ, ◌+◌, ◌<◌, ◌≤◌, List, [], length, take, sum_by, slice_index_or, Some}
 use Rattle.std.specs.Option.{option_map}
 use Rattle.tile_model.specs.Tessellations.{TileKind}
 use Rattle.tree_model.specs.Automata.{TreeAutomaton, state_at, corner_at, root_at}
@@ -8,7 +8,6 @@ use Rattle.look_classes.specs.Tree.{sides_of, dart_of}
 use Rattle.look_classes.specs.Numbers.{entry}
 use Rattle.look_classes.specs.Classes.{ClassLists, AreClasses, made}
 use Rattle.look_classes.specs.States.{LooksState}
-use Rattle.least_ranks.specs.Ranks.{AreLeastRanks}
 use Rattle.state_candidates.specs.Reading.{IsFirstWith, corner_index, state_of, corner_of}
 
 -- what a search for candidates stands at: regions, and the horizon that it has come to
@@ -55,8 +54,7 @@ pub record IsReadOff (r : RegionState) (x : ClassLists) (s g k : ℕ)
 
 -- An automaton is the candidate of regions, one for each kind, to a horizon: each region gives its
 -- own states and corner types, those of earlier regions first, one for each number of its classes
--- to the horizon. There are at most 20,000 of either. The scale is the number of corner types, and
--- the ranks are the least that meet the condition on them.
+-- to the horizon. There are at most 100,000 states and 20,000 corner types.
 pub record IsCandidate (kinds : List TileKind) (regions : List RegionState) (h : ℕ)
     (a : TreeAutomaton) :
     Type 0 where
@@ -70,10 +68,8 @@ pub record IsCandidate (kinds : List TileKind) (regions : List RegionState) (h :
   pub state_count : length a.states ≡ states_before lists (length regions)
   pub corner_count : length a.corners ≡ corners_before lists (length regions)
   pub root_count : length a.roots ≡ length kinds
-  pub few_states : length a.states ≤ 20000
+  pub few_states : length a.states ≤ 100000
   pub few_corners : length a.corners ≤ 20000
-  pub scale : a.scale ≡ length a.corners
-  pub ranks : AreLeastRanks a.corners (map (λ g. g.rank) a.corners)
 
 -- what stands for the looks of a region that are not there
 abbrev pub no_looks : LooksState

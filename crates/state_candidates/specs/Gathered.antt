@@ -1,11 +1,10 @@
 -- The readers of regions, and the tables that are read with all of them.
-use Rattle.std.specs.Prelude.{◌≡◌, ℕ, ◌+◌, ◌<◌, ◌≤◌, List, map, length, slice_index, slice_index_or, Option, None, Some}
+use Rattle.std.specs.Prelude.{◌≡◌, ℕ, ◌+◌, ◌<◌, ◌≤◌, List, map, length, slice_index_or, Option, None, Some}
 use Rattle.std.specs.Option.{option_map}
 use Rattle.tree_model.specs.Automata.{TreeState, CornerType, TreeAutomaton, no_state, no_corner}
 use Rattle.look_classes.specs.Numbers.{entry}
 use Rattle.look_classes.specs.Classes.{ClassLists, AreClasses}
 use Rattle.look_classes.specs.States.{LooksState}
-use Rattle.least_ranks.specs.Ranks.{corner_in, AreLeastRanks}
 use Rattle.state_candidates.specs.Reading.{IsFirstWith}
 use Rattle.state_candidates.specs.Candidates.{no_region, no_lists, lists_at, looks_at, states_before, corners_before, IsReadOff}
 use Rattle.state_candidates.specs.Readers.{ReaderState, IsReader, IsLacking, state_read, corner_read, tables_of}
@@ -49,10 +48,10 @@ pub record AreClassesOf (looks : List LooksState) (lists : List ClassLists) : Ty
   pub each : (k : ℕ) → k < length looks
       → AreClasses (looks_at looks k).horizon (looks_at looks k).region (lists_at lists k)
 
--- there are more than 20,000 states or corner types
+-- there are more than 100,000 states or 20,000 corner types
 abbrev pub HasTooMany : List LooksState → Type 0
 HasTooMany looks = (lists : List ClassLists) → AreClassesOf looks lists
-    → states_before lists (length looks) ≤ 20000
+    → states_before lists (length looks) ≤ 100000
     → corners_before lists (length looks) ≤ 20000 → ⊥
 
 -- What is read off the first entry with each number of each of the first n readers stands in a
@@ -107,16 +106,3 @@ pub record IsAssembled (readers : List ReaderState) (a : TreeAutomaton) : Type 0
   pub state_count : length a.states ≡ states_before (lists_of readers) (length readers)
   pub corner_count : length a.corners ≡ corners_before (lists_of readers) (length readers)
   pub root_count : length a.roots ≡ length readers
-  pub scale : a.scale ≡ length a.corners
-  pub ranks : AreLeastRanks a.corners (map (λ g. g.rank) a.corners)
-
--- a corner type with its rank
-abbrev pub with_rank : CornerType → ℕ → CornerType
-with_rank g rank = record { offsets = g.offsets; outer = g.outer; rank = rank }
-
--- the first n corner types have their ranks, and those behind are the same
-pub record IsRankedAs (before : List CornerType) (ranks : List ℕ) (after : List CornerType)
-    (n : ℕ) : Type 0 where
-  pub ranked : (g : ℕ) → g < n → corner_in after g
-      ≡ with_rank (corner_in before g) (slice_index ranks g)
-  pub same : (g : ℕ) → n ≤ g → corner_in after g ≡ corner_in before g

@@ -27,7 +27,7 @@ pub record AreStarts (r : RegionState) (starts : List ℕ) : Type 0 where
 pub record IsReader (v : ReaderState) : Type 0 where
   pub table : IsTable v.region.table
   pub classes : AreClasses v.horizon v.region v.lists
-  pub few_states : v.first_state + v.lists.cell_count ≤ 20000
+  pub few_states : v.first_state + v.lists.cell_count ≤ 100000
   pub few_corners : v.first_corner + v.lists.corner_count ≤ 20000
 
 pub record IsReaderWith (v : ReaderState) (starts : List ℕ) : Type 0 where

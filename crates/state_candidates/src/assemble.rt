@@ -1,13 +1,10 @@
 //! The automaton that is read with readers.
-ghost use Rattle.std.specs.Prelude.{◌≡◌, ℕ, ◌<◌, ◌≤◌, length, slice_index, IfOk, IfSome, IfNone};
+ghost use Rattle.std.specs.Prelude.{length, IfOk, IfSome, IfNone};
 ghost use Rattle.tree_model.specs.Automata.{TreeAutomaton};
-ghost use Rattle.least_ranks.specs.Ranks.{corner_in};
-ghost use Rattle.state_candidates.specs.Candidates.{states_before, corners_before};
-ghost use Rattle.state_candidates.specs.Gathered.{AreReaders, HaveStates, HaveCorners, HaveRoots, LackStates, LackCorners, LackRoots, IsAssembled, IsRankedAs, lists_of};
+ghost use Rattle.state_candidates.specs.Gathered.{AreReaders, HaveStates, HaveCorners, HaveRoots, LackStates, LackCorners, LackRoots, IsAssembled};
 
 use crate::reader::Reader;
 use crate::rows::{push_corners, push_states};
-use least_ranks::least_ranks;
 use rules_data::{Automaton, Corner, State};
 use std::alloc::{AllocError, Global};
 
@@ -27,7 +24,7 @@ fn states_of(alloc: Global, readers: &[Reader]) -> Result<Option<Vec<State>>, Al
     Ok(Some(states))
 }
 
-/// The corner types of all readers, with rank 0; None where one is not there.
+/// The corner types of all readers; None where one is not there.
 fn corners_of(alloc: Global, readers: &[Reader]) -> Result<Option<Vec<Corner>>, AllocError>
     requires { AreReaders readers.now }
     ensures some { IfOk result
@@ -59,23 +56,9 @@ fn roots_of(alloc: Global, readers: &[Reader]) -> Result<Option<Vec<u32>>, Alloc
     Ok(Some(roots))
 }
 
-/// Gives each corner type its rank.
-fn set_ranks(corners: &mut [Corner], ranks: &[u32])
-    requires { length corners.old ≡ length ranks.now }
-    ensures long { length corners.new ≡ length corners.old }
-    ensures ranked { IsRankedAs corners.old ranks.now corners.new (length corners.old) }
-{
-    for g in 0..corners.len() {
-        let corner = &mut corners[g];
-        corner.rank = ranks[g];
-    }
-}
-
-/// The automaton that is read with readers, of 20,000 states and corner types at most; None where
-/// there is none. Ranks come last.
+/// The automaton that is read with readers; None where there is none.
 pub(crate) fn assemble(alloc: Global, readers: &[Reader]) -> Result<Option<Automaton>, AllocError>
-    requires readers { AreReaders readers.now }
-    requires few { corners_before (lists_of readers.now) (length readers.now) ≤ 20000 }
+    requires { AreReaders readers.now }
     ensures some { IfOk result (λ o. IfSome o (IsAssembled readers.now)) }
     ensures none { IfOk result (λ o. IfNone o ((a : TreeAutomaton)
         → IsAssembled readers.now a → ⊥)) }
@@ -86,18 +69,12 @@ pub(crate) fn assemble(alloc: Global, readers: &[Reader]) -> Result<Option<Autom
     let Some(states) = states_of(alloc, readers)? else {
         return Ok(None);
     };
-    let Some(mut corners) = corners_of(alloc, readers)? else {
+    let Some(corners) = corners_of(alloc, readers)? else {
         return Ok(None);
     };
-    let Some(ranks) = least_ranks(alloc, &corners)? else {
-        return Ok(None);
-    };
-    set_ranks(&mut corners, &ranks);
-    let scale = corners.len() as u32;
     Ok(Some(Automaton {
         states,
         corners,
         roots,
-        scale,
     }))
 }

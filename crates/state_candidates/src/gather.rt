@@ -6,21 +6,24 @@ use crate::reader::Reader;
 use look_classes::{Classes, Looks};
 use std::alloc::{AllocError, Global};
 
-/// The most states, and the most corner types, of a candidate.
-const MOST: u32 = 20_000;
+/// The most states of a candidate.
+const MOST_STATES: u32 = 100_000;
 
-/// Whether so many states and corner types, and those of classes, are 20,000 of each at most.
+/// The most corner types of a candidate.
+const MOST_CORNERS: u32 = 20_000;
+
+/// Whether so many states and corner types, and those of classes, are 100,000 and 20,000 at most.
 fn fits(classes: &Classes, states: u32, corners: u32) -> bool
-    requires few_states { states ≤ 20000 }
+    requires few_states { states ≤ 100000 }
     requires few_corners { corners ≤ 20000 }
-    ensures { IsTrue result ↔ ((states + classes.now.cell_count ≤ 20000)
+    ensures { IsTrue result ↔ ((states + classes.now.cell_count ≤ 100000)
         × (corners + classes.now.corner_count ≤ 20000)) }
 {
-    classes.cell_count <= MOST - states && classes.corner_count <= MOST - corners
+    classes.cell_count <= MOST_STATES - states && classes.corner_count <= MOST_CORNERS - corners
 }
 
 /// The readers of the regions of looks, each with the number of its first state and corner type;
-/// None where there are more than 20,000 of either.
+/// None where there are more than 100,000 states or 20,000 corner types.
 pub(crate) fn readers<'a, 'g, 't>(
     alloc: Global,
     looks: &'a [Looks<'g, 't>],

@@ -13,6 +13,3 @@ mod rows;
 mod starts;
 
 pub use candidates::Candidates;
-
-#[cfg(test)]
-mod tests;

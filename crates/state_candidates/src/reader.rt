@@ -75,7 +75,7 @@ impl<'a, 'g, 't> Reader<'a, 'g, 't> {
         first_corner: u32,
     ) -> Result<Reader<'a, 'g, 't>, AllocError>
         requires classes { AreClasses looks.now.horizon looks.now.region classes.now }
-        requires few_states { first_state + classes.now.cell_count ≤ 20000 }
+        requires few_states { first_state + classes.now.cell_count ≤ 100000 }
         requires few_corners { first_corner + classes.now.corner_count ≤ 20000 }
         ensures reader { IfOk result IsReader }
         ensures value { IfOk result (λ x. x ≡ record {
@@ -188,7 +188,7 @@ impl<'a, 'g, 't> Reader<'a, 'g, 't> {
     /// The number of a cell; None where it has none.
     pub(crate) fn cell_number(&self, cell: u32) -> Option<u32>
         ensures value { result ≡ entry self.now.lists.cells cell }
-        ensures few { IfSome result (λ m. self.now.first_state + m ≤ 20000) }
+        ensures few { IfSome result (λ m. self.now.first_state + m ≤ 100000) }
     {
         let classes = self.classes;
         number_at(&classes.cells, cell as usize)
@@ -303,8 +303,7 @@ impl<'a, 'g, 't> Reader<'a, 'g, 't> {
         }))
     }
 
-    /// The corner type that is read off a side of a cell that was made, with rank 0; None where
-    /// there is none.
+    /// The corner type that is read off a side of a cell that was made; None where there is none.
     pub(crate) fn corner(
         &self,
         alloc: Global,
@@ -329,10 +328,6 @@ impl<'a, 'g, 't> Reader<'a, 'g, 't> {
         let Some(offsets) = distances(alloc, region, left(region, next))? else {
             return Ok(None);
         };
-        Ok(Some(Corner {
-            offsets,
-            outer,
-            rank: 0,
-        }))
+        Ok(Some(Corner { offsets, outer }))
     }
 }

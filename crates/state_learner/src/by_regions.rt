@@ -24,8 +24,15 @@ enum Outcome {
     Spent,
 }
 
-/// Rules for a tessellation that is not regular, by candidates over regions.
-pub(crate) fn learn_by_regions<'t>(
+/// Rules for a tessellation that is not regular, by candidates over regions alone, with at most
+/// `budget` cells in all regions together, 1 to 1,000,000.
+///
+/// # Errors
+///
+/// `Closed` where all sides of the tiles of a region are joined, with their number; `GaveUp` where
+/// the budget is spent and each candidate to the horizons 0 to 8 is missing or refused; `Memory`
+/// where there is none.
+pub fn learn_by_regions<'t>(
     alloc: Global,
     t: &'t Tessellation,
     budget: u32,

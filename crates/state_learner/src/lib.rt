@@ -10,10 +10,8 @@ mod learning;
 mod rounds;
 mod teacher;
 
+pub use by_regions::learn_by_regions;
 pub use fault::LearnFault;
 pub use learner::Learner;
 pub use learning::learn;
 pub use teacher::Teacher;
-
-#[cfg(test)]
-mod tests;

@@ -4,7 +4,7 @@
 /// where corners do not close.
 #[derive(Clone, Copy, Debug, PartialEq, Eq)]
 pub struct Limits {
-    /// The most cone types. Rules have at most 20,000 states.
+    /// The most cone types.
     pub types: usize,
     /// The most open corners that are told. 40 give a learner enough to look at in one round.
     pub open: usize,

@@ -11,7 +11,6 @@ returns c = record {
   states = search rules;
   corners = search rules;
   roots = search rules;
-  scale = search rules;
   few_states = search rules;
   few_corners = search rules;
 }

@@ -1,8 +1,7 @@
-use Rattle.std.proofs.Common.{◌≡◌, ◌<◌, ◌+◌, suc, List, length, get_or, arith, sym, ap, subst, ◌∙◌}
+use Rattle.std.proofs.Common.{◌≡◌, ◌<◌, List, length, get_or, arith, sym, ap, subst, ◌∙◌}
 use Rattle.std.proofs.lemmas.List.{get_or_default}
 use Rattle.regular_maker.specs.Pairs.{IsPair}
 use Rattle.regular_maker.specs.States.{first_pair}
-use Rattle.regular_maker.specs.Corners.{parity}
 use Rattle.regular_maker.specs.Automaton.{pair_at, all_pairs, all_states}
 use Rattle.regular_maker.specs.declared.symbol.Pair.{Pair}
 use Rattle.regular_maker.proofs.Shapes.{shape_of}
@@ -35,11 +34,8 @@ returns c =
     let q = c.args.symbol.q in
     let same : c.deref.result.now ≡ all_pairs p q = c.deref.ensures.value ∙ c.in_ok-pairs.ensures in
     let states = c.in_ok-all_states.ensures ∙ ap (all_states p q) same in
-    let step : c.parity.result + 1 ≡ suc c.parity.result = omega arith in
-    let scale : c.parity.result + 1 ≡ suc (parity q) = step ∙ ap suc c.parity.ensures.value in
     λ i. record {
       states = states i;
       corners = c.in_ok-corner_types.ensures i;
       roots = c.in_ok-vec.ensures.items i;
-      scale = scale i;
     }

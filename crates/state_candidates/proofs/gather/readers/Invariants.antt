@@ -10,6 +10,6 @@ invariant-loop-x l = record {
   readers : AreReadersOf l.looks l.readers.items;
   states : l.states ≡ states_before (lists_of l.readers.items) l.x-index;
   corners : l.corners ≡ corners_before (lists_of l.readers.items) l.x-index;
-  few_states : l.states ≤ 20000;
+  few_states : l.states ≤ 100000;
   few_corners : l.corners ≤ 20000;
 }

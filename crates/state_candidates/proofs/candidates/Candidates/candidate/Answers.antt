@@ -5,19 +5,9 @@ use Rattle.look_classes.specs.States.{LooksState}
 use Rattle.state_candidates.specs.Candidates.{AreLooks, IsCandidate, CandidatesState}
 use Rattle.state_candidates.specs.Readers.{ReaderState}
 use Rattle.state_candidates.specs.Gathered.{AreReadersOf, IsAssembled}
-use Rattle.state_candidates.proofs.Found.{few_corners, is_candidate, is_assembled, some_as, none_as}
+use Rattle.state_candidates.proofs.Found.{is_candidate, is_assembled, some_as, none_as}
 use Rattle.state_candidates.proofs.OneCandidate.{one_candidate}
 use Rattle.state_candidates.proofs.candidates.Candidates.candidate.Goals as goal
-
-pub assemble-requires-clause-few : goal.assemble-requires-clause-few
-assemble-requires-clause-few c =
-    let looks = c.self.inside.looks.items in
-    let rs = c.deref-2.result.now in
-    let v = c.args.self.now in
-    let found = subst (λ o. IfSome o (λ w. (length w.items ≡ length c.deref.result.now) × AreReadersOf c.deref.result.now w.items)) c.in-Some.is c.in_ok-readers.ensures.some in
-    let count : length rs ≡ length looks = ap length c.deref-2.ensures.value ∙ (found.0 ∙ ap length c.deref.ensures.value) in
-    let readers : AreReadersOf looks rs = subst (λ (ls : List LooksState). AreReadersOf ls rs) c.deref.ensures.value (subst (λ (ws : List ReaderState). AreReadersOf c.deref.result.now ws) (sym c.deref-2.ensures.value) found.1) in
-    few_corners rs readers.readers_ok
 
 pub returns-clause-some : goal.returns-clause-some
 returns-clause-some c =

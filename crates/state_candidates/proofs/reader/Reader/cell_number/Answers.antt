@@ -11,4 +11,4 @@ returns-clause-few c =
     let v = c.args.self.now in
     let ok : IsReaderWith v c.self.inside.starts.items = subst (λ v. IsReaderWith v c.self.inside.starts.items) c.self.view_is c.self.invariant in
     let cells : c.deref.result.now ≡ v.lists.cells = c.deref.ensures.value ∙ (ap (λ x. x.cells) c.classes.view_is ∙ ap (λ v. v.lists.cells) c.self.view_is) in
-    few_numbers (cell_looks v.horizon v.region) v.lists.cells v.lists.cell_count ok.reader.classes.cells v.first_state ok.reader.few_states c.args.cell c.number_at.result (c.number_at.ensures ∙ ap (λ (xs : List (Option ℕ)). entry xs c.args.cell) cells)
+    few_numbers 100000 (cell_looks v.horizon v.region) v.lists.cells v.lists.cell_count ok.reader.classes.cells v.first_state ok.reader.few_states c.args.cell c.number_at.result (c.number_at.ensures ∙ ap (λ (xs : List (Option ℕ)). entry xs c.args.cell) cells)

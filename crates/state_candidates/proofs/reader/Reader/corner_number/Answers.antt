@@ -26,4 +26,4 @@ returns-clause-few c =
     let ok : IsReaderWith v starts = subst (λ v. IsReaderWith v starts) c.self.view_is c.self.invariant in
     let corners : c.deref.result.now ≡ v.lists.corners = c.deref.ensures.value ∙ (ap (λ x. x.corners) c.classes.view_is ∙ ap (λ v. v.lists.corners) c.self.view_is) in
     let at = c.index.result.now + c.d.inside.side in
-    few_numbers (corner_looks v.horizon v.region) v.lists.corners v.lists.corner_count ok.reader.classes.corners v.first_corner ok.reader.few_corners at c.number_at.result (c.number_at.ensures ∙ ap (λ (xs : List (Option ℕ)). entry xs at) corners)
+    few_numbers 20000 (corner_looks v.horizon v.region) v.lists.corners v.lists.corner_count ok.reader.classes.corners v.first_corner ok.reader.few_corners at c.number_at.result (c.number_at.ensures ∙ ap (λ (xs : List (Option ℕ)). entry xs at) corners)
