@@ -1,11 +1,11 @@
 -- Spots: the states on the path, and the steps to a child and to the parent.
-use Rattle.std.proofs.Common.{◌≡◌, ℕ, suc, ◌<◌, ◌≤◌, List, All, [], ◌∷◌, ◌++◌, length, slice_index_or, refl, sym, ap, ap₂, ◌∙◌, subst, arith, take_all}
+use Rattle.std.proofs.Common.{◌≡◌, ℕ, suc, ◌<◌, List, All, [], ◌∷◌, ◌++◌, length, slice_index_or, refl, sym, ap, ap₂, ◌∙◌, subst, arith, take_all}
 use Rattle.std.proofs.lemmas.List.{same_from_push}
 use Rattle.structure_check.specs.Rules.{TreeRules, AreSound}
 use Rattle.tree_model.specs.declared.Rule.TheVariants.{Child}
 use Rattle.tree_model.specs.Automata.{TreeAutomaton, state_at, root_at, rule_at}
 use Rattle.tree_model.specs.Names.{child_of, reached, IsName}
-use Rattle.tree_model.specs.Positions.{Position, IsPosition, root, parent, last_side, rule_of}
+use Rattle.tree_model.specs.Positions.{IsPosition, root, parent, last_side}
 use Rattle.tree_model.proofs.Names.{parent_push, last_side_push, name_last}
 use Rattle.tree_model.proofs.Positions.{make_position, same_position, few_sides, state_known, IsDown, down_position}
 use Rattle.spot_laws.specs.Spots.{TreeSpot, IsSpot, IsAt, IsAtChild, IsAtParent, position, states_along}

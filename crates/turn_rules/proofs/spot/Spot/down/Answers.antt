@@ -1,4 +1,4 @@
-use Rattle.std.proofs.Common.{ap, ap₂, ◌∙◌, ◌++◌, ◌∷◌, [], sym, subst, arith, ◌≡◌, ◌<◌, length}
+use Rattle.std.proofs.Common.{ap, ap₂, ◌∙◌, ◌∷◌, [], sym, subst, arith, ◌≡◌, length}
 use Rattle.tree_model.specs.Automata.{state_at, rule_at}
 use Rattle.spot_laws.specs.Spots.{IsAtChild, tile_state, rejoined}
 use Rattle.spot_laws.proofs.Spots.{tile_known, spin_small, all_one, rejoined_down}

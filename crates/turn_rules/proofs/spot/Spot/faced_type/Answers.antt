@@ -1,4 +1,4 @@
-use Rattle.std.proofs.Common.{◌<◌, length, sym, ap, ◌∙◌, subst}
+use Rattle.std.proofs.Common.{◌<◌, length, sym, subst}
 use Rattle.tree_model.specs.Conditions.{HasTables}
 use Rattle.spot_laws.specs.Spots.{tile_state}
 use Rattle.spot_laws.proofs.Spots.{tile_known}
