@@ -5,3 +5,4 @@ pub mod Standing
 pub mod Comparing
 pub mod Going
 pub mod Measuring
+pub mod Written

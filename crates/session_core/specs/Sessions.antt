@@ -1,5 +1,7 @@
 -- Sessions: walkers and texts in the tree of a kind, and the histories that a session stands for.
-use Rattle.std.specs.Prelude.{◌≡◌, ℕ, ◌<◌, ◌≤◌, ◌↔◌, List, length, slice_index_or}
+use Rattle.std.specs.Prelude.{◌≡◌, ℕ, ◌<◌, ◌≤◌, ◌↔◌, nat_eq, List, length, slice_index_or, Contains}
+use Rattle.std.specs.Cmp.Lexicographic.{pointwise}
+use Rattle.std.specs.List.{IsDistinct}
 use Rattle.std.specs.Prelude.{Option, None, Some, IsSome}
 use Rattle.tile_model.specs.declared.Letter.{Letter}
 use Rattle.tree_model.specs.Limits.{deepest}
@@ -77,6 +79,24 @@ pub record IsTileName (reading : Reading) (k : ℕ) (name : List ℕ) : Type 0 w
   pub place : Position
   pub placed : reading.HasPlace k walk place
   pub named : place.name ≡ name
+
+-- By a reading, so many tiles have a text after the history: their names can be listed, each once,
+-- and the name of a tile is among them exactly where something was written on it.
+pub record HaveTexts (reading : Reading) (k : ℕ) (history : History) (n : ℕ) : Type 0 where
+  pub listed : List (List ℕ)
+  pub count : length listed ≡ n
+  pub once : IsDistinct (pointwise nat_eq) listed
+  pub of_tiles : (name : List ℕ) → Contains listed name → IsTileName reading k name
+  pub some :
+      (u : List Letter) (p : Position)
+      → reading.HasPlace k u p
+      → Contains listed p.name
+      → ¬ IsBlank reading history u
+  pub all :
+      (u : List Letter) (p : Position)
+      → reading.HasPlace k u p
+      → ¬ IsBlank reading history u
+      → Contains listed p.name
 
 -- By a reading of the words of a reply, a session stands for a history: the replies in it are due,
 -- there is a spot for exactly the walkers that exist after it, the spot of each is the place of its

@@ -3,10 +3,10 @@ ghost use Rattle.std.specs.Prelude.{◌≡◌, ◌<◌, ◌≤◌, ◌↔◌, su
 ghost use Rattle.std.specs.Prelude.{MatchOption, IfOk, OnErr, IsTrue};
 ghost use Rattle.tree_model.specs.Names.{IsRing};
 ghost use Rattle.reply_model.specs.declared.Command.{Command};
-ghost use Rattle.lazy_map.specs.Texts.{most_texts, HasNoDoubles};
-ghost use Rattle.reply_model.specs.Histories.{most_walkers};
+ghost use Rattle.lazy_map.specs.Texts.{most_texts};
+ghost use Rattle.reply_model.specs.Histories.{History, most_walkers};
 ghost use Rattle.session_core.specs.Sessions.{IsSession, HasNumbers, walker_at};
-ghost use Rattle.session_core.specs.Sessions.{StandsFor, StandsForWalks};
+ghost use Rattle.session_core.specs.Sessions.{HaveTexts, StandsFor, StandsForWalks, session_over_tree};
 ghost use Rattle.session_core.specs.Answered.{HasAnswered, refusal_of};
 
 use cell_distance::{DistFault, spot_distance, spot_shortest};
@@ -110,11 +110,12 @@ impl<'r> Session<'r> {
         }
     }
 
-    /// How many tiles have a text: the entries of the texts, each of which has a name of its own.
-    /// Takes no memory.
+    /// How many tiles have a text. Takes no memory.
     pub fn written(&self) -> u32
+        ensures tiles { (history : History)
+            → StandsFor self.now history
+            → HaveTexts (session_over_tree self.now) self.now.kind history result }
         ensures count { result ≡ length self.now.texts }
-        ensures no_doubles { HasNoDoubles self.now.texts }
         ensures session { IsSession self.now }
     {
         self.texts.len()
