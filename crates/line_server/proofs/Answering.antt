@@ -1,7 +1,9 @@
 -- One line, answered by a session.
-use Rattle.std.proofs.Common.{◌≡◌, ◌≢◌, ℕ, ◌<◌, ◌≤◌, Bool, List, [], ◌∷◌, ◌++◌, length, refl, sym, ap, subst, arith}
-use Rattle.std.proofs.lemmas.List.{length-append}
-use Rattle.std.specs.Prelude.{Result, Ok, Err, OnOk, OnErr}
+use Rattle.std.proofs.Common.{◌≡◌, ◌≢◌, ◌↔◌, ◌⊎◌, inl, inr, ℕ, ◌<◌, ◌≤◌, Bool, true, false, IsTrue, List, [], ◌∷◌, ◌++◌, length, refl, sym, ◌∙◌, subst, arith}
+use Rattle.std.proofs.lemmas.Bool.{false≢true, cases_lt}
+use Rattle.std.proofs.lemmas.List.{length-append, append-nil}
+use Rattle.std.specs.Prelude.{Option, Result, Ok, Err, OnOk, OnErr}
+use Rattle.ring_listing.specs.Rings.{Listing}
 use Rattle.reply_model.specs.declared.Command.{Command}
 use Rattle.reply_model.specs.declared.Command.TheVariants.{New, Go, At, Same, Level, Dist, Path}
 use Rattle.reply_model.specs.declared.Command.TheVariants.{Put, Get, Ring, Count}
@@ -9,13 +11,17 @@ use Rattle.reply_model.specs.declared.Reply.{Reply}
 use Rattle.command_text.specs.CommandLines.{IsSpelling, SpellsNothing, most_of_line}
 use Rattle.command_text.specs.CommandLines.{Operands, one_walker, two_walkers, walker_and_walk, walker_and_text, one_distance}
 use Rattle.command_text.specs.CommandLines.{AreTold, by_number, by_numbers, by_number_and_letters, by_number_and_text, by_distance}
-use Rattle.session_core.specs.Sessions.{SessionState, HasNumbers, StandsForWalks}
+use Rattle.command_text.specs.Replies.{reply_text}
+use Rattle.session_core.specs.Sessions.{SessionState, HasNumbers, AreReadAlike}
+use Rattle.session_core.specs.Answered.{HasAnswered}
 use Rattle.reply_model.specs.Histories.{History, most_walkers}
+use Rattle.line_server.specs.Answering.{AreBehind, name_lines}
 use Rattle.line_server.specs.Outputs.{IsAnswered, too_long, empty, bad, replied, too_long_text, bad_text}
 use Rattle.line_server.specs.Outboxes.{HasSaid, HasBroken}
-use Rattle.line_server.specs.Sessions.{answering_of, AnswersLine, DuesLine}
-use Rattle.line_server.specs.Readers.{HasReplied, HasFailed, nothing, partly}
-use Rattle.line_server.proofs.Saying.{says_none, breaks_none}
+use Rattle.line_server.specs.Sessions.{answering_of, AnswersLine}
+use Rattle.line_server.specs.Readers.{AreDropped, IsTextBehind, IsMeasured, HasAnsweredLine, names_of, HasReplied, HasFailed, nothing, partly}
+use Rattle.line_server.proofs.Listing.{text_said}
+use Rattle.line_server.proofs.Saying.{says_then, says_waiting, breaks_none, breaks_then}
 
 -- what follows from what holds after Ok, and after Err
 pub on_ok : {T E : Type 0} {P Q : Type 0} (r : Result T E) → (P → Q) → OnOk r P → OnOk r Q
@@ -71,30 +77,18 @@ stays :
 stays s line text answer said =
     record { rules = refl; kind = refl; stands = λ before stands. (before, said before, stands) }
 
-module _ (tells : Bool) (s : SessionState) (line text taken waiting : List ℕ) where
-  -- an answer that changes nothing
-  pub replies_so :
-      (answer taken' waiting' : List ℕ)
-      → ((h : History) → IsAnswered (answering_of s) h line text answer h)
-      → HasSaid tells taken waiting answer taken' waiting'
-      → HasReplied tells s line text taken waiting s taken' waiting'
-  replies_so answer taken' waiting' told said =
-      record { answer = answer; said = said; session = stays s line text answer told }
-
-  pub fails_so :
-      (answer taken' : List ℕ) → ((h : History) → IsAnswered (answering_of s) h line text answer h)
-      → HasBroken tells taken waiting answer taken'
-      → HasFailed tells s line text taken waiting taken'
-  fails_so answer taken' told broken = partly answer (λ h here. (h, told h)) broken
-
-  pub says_nothing :
-      length line ≤ most_of_line → text ≡ []
-      → HasReplied tells s line text taken waiting s taken waiting
-  says_nothing short none =
-      replies_so [] taken waiting (λ h. empty short none) (says_none tells taken waiting)
-
-  pub fails_before : HasFailed tells s line text taken waiting taken
-  fails_before = nothing (breaks_none tells taken waiting)
+-- an answer that changes nothing
+pub answers_so :
+    (s : SessionState) (line text waiting front waiting' : List ℕ)
+    → ((h : History) → IsAnswered (answering_of s) h line text front h)
+    → waiting' ≡ waiting ++ front → HasAnsweredLine s line text waiting s waiting' []
+answers_so s line text waiting front waiting' told e = record {
+  front = front;
+  waits = e;
+  session =
+      stays s line text (front ++ [])
+      (λ h. subst (λ l. IsAnswered (answering_of s) h line text l h) (sym (append-nil front)) (told h));
+}
 
 pub is_too_long :
     (s : SessionState) (line text : List ℕ) → most_of_line < length line → (h : History)
@@ -106,41 +100,71 @@ pub is_bad :
     → SpellsNothing text → (h : History) → IsAnswered (answering_of s) h line text bad_text h
 is_bad s line text short some unspelt h = bad short some unspelt
 
-module _
-    (tells : Bool) (old new : SessionState) (line text taken waiting : List ℕ) (c : Command)
-    (x : Reply) (answer : List ℕ) (short : length line ≤ most_of_line) (spelt : IsSpelling text c)
-    (due :
-    (history : History) → StandsForWalks old history → (answering_of old).IsDue history c x)
-    (said : (history : History) → StandsForWalks old history → (answering_of old).HasText x answer)
-  where
-    answered :
-        (history : History) → StandsForWalks old history →
-        IsAnswered (answering_of old) history line text answer (history ++ (c, x) ∷ [])
-    answered history here =
-        replied short c x answer spelt (due history here) (said history here)
+-- the session answered a command, and the line of its reply waits
+pub answers_command :
+    (old new : SessionState) (line text waiting waiting' : List ℕ) (c : Command) (x : Reply)
+    (names : List (List ℕ)) → length line ≤ most_of_line → IsSpelling text c → AreReadAlike old
+    → AreReadAlike new → HasAnswered old c x new → AreBehind new x names
+    → waiting' ≡ waiting ++ reply_text x → HasAnsweredLine old line text waiting new waiting' names
+answers_command old new line text waiting waiting' c x names short spelt was is answered behind e = record {
+  front = reply_text x;
+  waits = e;
+  session = record {
+    rules = answered.rules;
+    kind = answered.kind;
+    stands = λ h here.
+        let before = (was.stands h).0 here in
+        let due = (was.due h c x).1 (answered.due h before) in
+        let said = text_said old new answered.rules answered.kind h c behind due in
+        (
+          h ++ (c, x) ∷ [],
+          replied short c x (reply_text x ++ name_lines names) spelt due said,
+          (is.stands (h ++ (c, x) ∷ [])).1 (answered.stands h before),
+        );
+  };
+}
 
-    pub replies :
-        (taken' waiting' : List ℕ) →
-        ((history : History) → StandsForWalks old history →
-        StandsForWalks new (history ++ (c, x) ∷ [])) → new.rules ≡ old.rules →
-        new.kind ≡ old.kind → HasSaid tells taken waiting answer taken' waiting' →
-        HasReplied tells old line text taken waiting new taken' waiting'
-    replies taken' waiting' stands rules kind said = record {
+-- the names that follow, as they are known now
+pub now_named :
+    (old new : SessionState) (line text waiting waiting' : List ℕ) (o p : Option Listing) → o ≡ p
+    → HasAnsweredLine old line text waiting new waiting' (names_of o)
+    → HasAnsweredLine old line text waiting new waiting' (names_of p)
+now_named old new line text waiting waiting' o p e a =
+    subst (λ q. HasAnsweredLine old line text waiting new waiting' (names_of q)) e a
+
+-- An answer waits, and is passed on with the names that follow it.
+module _
+    (tells : Bool) (old new : SessionState) (line text taken waiting waiting' : List ℕ)
+    (names : List (List ℕ)) (a : HasAnsweredLine old line text waiting new waiting' names)
+  where
+    abbrev answer : List ℕ
+    answer = a.front ++ name_lines names
+
+    pub passes :
+        (taken' waiting'' : List ℕ)
+        → HasSaid tells taken waiting' (name_lines names) taken' waiting''
+        → HasReplied tells old line text taken waiting new taken' waiting''
+    passes taken' waiting'' said = record {
       answer = answer;
-      said = said;
-      session = record {
-        rules = rules;
-        kind = kind;
-        stands = λ history here.
-            (history ++ (c, x) ∷ [], answered history here, stands history here);
-      };
+      said =
+          says_then tells taken waiting a.front taken waiting' (name_lines names) taken' waiting''
+          (says_waiting tells taken waiting a.front waiting' a.waits) said;
+      session = a.session;
     }
 
-    pub fails_replying :
-        (taken' : List ℕ) → HasBroken tells taken waiting answer taken' →
-        HasFailed tells old line text taken waiting taken'
-    fails_replying taken' broken =
-        partly answer (λ history here. (history ++ (c, x) ∷ [], answered history here)) broken
+    pub breaks :
+        (taken' : List ℕ) → HasBroken tells taken waiting' (name_lines names) taken'
+        → HasFailed tells old line text taken waiting taken'
+    breaks taken' broken =
+        partly answer (λ h here. let it = a.session.stands h here in (it.0, it.1))
+        (breaks_then tells taken waiting a.front taken waiting' (name_lines names) taken'
+        (says_waiting tells taken waiting a.front waiting' a.waits) broken)
+
+-- nothing was answered, or written
+pub fails_before :
+    (tells : Bool) (s : SessionState) (line text taken waiting : List ℕ)
+    → HasFailed tells s line text taken waiting taken
+fails_before tells s line text taken waiting = nothing (breaks_none tells taken waiting)
 
 -- a line whose beginning was dropped
 pub lost_is_long :
@@ -148,23 +172,32 @@ pub lost_is_long :
     → most_of_line < length (dropped ++ line)
 lost_is_long dropped line long = rw (length-append dropped line) (omega (arith, long))
 
--- a line of which nothing was dropped
-module _ (dropped line text whole : List ℕ) (none : dropped ≡ []) (e : whole ≡ text) where
-  kept_line : line ≡ dropped ++ line
-  kept_line = ap (λ l. l ++ line) (sym none)
+-- what is measured of the end of a line is measured of the line
+pub measured :
+    (is_long lost : Bool) (dropped text line whole : List ℕ) → AreDropped lost dropped
+    → IsTrue is_long ↔ (most_of_line < length (dropped ++ line)) → IsTextBehind lost text whole
+    → IsMeasured is_long text (dropped ++ line) whole
+measured is_long lost dropped text line whole d long told = record {
+  long = long.0;
+  short = λ e. go e (cases_lt most_of_line (length (dropped ++ line)));
+  same = λ e. told (kept e lost refl);
+}
+  where
+    go :
+        is_long ≡ false
+        → (most_of_line < length (dropped ++ line)) ⊎ (length (dropped ++ line) ≤ most_of_line)
+        → length (dropped ++ line) ≤ most_of_line
+    go e (inl lt) = absurd (false≢true (sym e ∙ long.1 lt))
+    go e (inr le) = le
 
-  pub replies_kept :
-      (tells : Bool) (old new : SessionState) (taken waiting taken' waiting' : List ℕ)
-      → HasReplied tells old line text taken waiting new taken' waiting'
-      → HasReplied tells old (dropped ++ line) whole taken waiting new taken' waiting'
-  replies_kept tells old new taken waiting taken' waiting' r =
-      subst (λ l. HasReplied tells old l whole taken waiting new taken' waiting') kept_line
-      (subst (λ t. HasReplied tells old line t taken waiting new taken' waiting') (sym e) r)
+    kept : is_long ≡ false → (b : Bool) → lost ≡ b → lost ≡ false
+    kept e false f = f
+    kept e true f = absurd (false≢true (sym e ∙ long.1 (lost_is_long dropped line (d.some f))))
 
-  pub fails_kept :
-      (tells : Bool) (old : SessionState) (taken waiting taken' : List ℕ)
-      → HasFailed tells old line text taken waiting taken'
-      → HasFailed tells old (dropped ++ line) whole taken waiting taken'
-  fails_kept tells old taken waiting taken' f =
-      subst (λ l. HasFailed tells old l whole taken waiting taken') kept_line
-      (subst (λ t. HasFailed tells old line t taken waiting taken') (sym e) f)
+-- a line of which nothing was dropped is as long as its end
+pub kept_is_long :
+    (lost b : Bool) (dropped line : List ℕ) → AreDropped lost dropped → lost ≡ false
+    → IsTrue b ↔ (most_of_line < length line)
+    → IsTrue b ↔ (most_of_line < length (dropped ++ line))
+kept_is_long lost b dropped line d kept long =
+    subst (λ l. IsTrue b ↔ (most_of_line < length (l ++ line))) (sym (d.none kept)) long

@@ -3,8 +3,8 @@ use Rattle.std.proofs.Common.{◌≡◌, ℕ, ◌+◌, ◌<◌, ◌≤◌, Bool,
 use Rattle.std.proofs.lemmas.List.{append_assoc, append-nil, length-append}
 use Rattle.way_io.specs.Pieces.{AppendsPrefix}
 use Rattle.session_core.specs.Sessions.{SessionState, StandsForWalks}
-use Rattle.line_server.specs.declared.outbox.Stop.{Stop}
-use Rattle.line_server.specs.declared.outbox.Stop.TheVariants.{Write, Memory as NoMemory}
+use Rattle.line_server.specs.declared.writing.Stop.{Stop}
+use Rattle.line_server.specs.declared.writing.Stop.TheVariants.{Write, Memory as NoMemory}
 use Rattle.line_server.specs.declared.stream.Ending.{Ending}
 use Rattle.line_server.specs.declared.stream.Ending.TheVariants.{Done, ReadFault, InputTooLong}
 use Rattle.line_server.specs.Lines.{most_of_stream}

@@ -1,5 +1,7 @@
 pub mod Counts
 pub mod Saying
+pub mod ReplyTexts
+pub mod Listing
 pub mod Answering
 pub mod Chains
 pub mod Going
@@ -14,7 +16,5 @@ pub mod SameOutput
 pub mod SomeOutput
 pub mod Due
 pub mod Interleaving
-pub mod ReplyTexts
-pub mod Listing
 pub mod Naming
 pub mod Streams

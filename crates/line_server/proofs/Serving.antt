@@ -5,8 +5,8 @@ use Rattle.std.proofs.lemmas.List.Elements.{All-nil, All-append}
 use Rattle.way_io.specs.Pieces.{AppendsPrefix}
 use Rattle.session_core.specs.Sessions.{SessionState}
 use Rattle.line_server.specs.declared.reader.Reader.{Reader}
-use Rattle.line_server.specs.declared.outbox.Stop.{Stop}
-use Rattle.line_server.specs.declared.outbox.Stop.TheVariants.{Memory}
+use Rattle.line_server.specs.declared.writing.Stop.{Stop}
+use Rattle.line_server.specs.declared.writing.Stop.TheVariants.{Memory}
 use Rattle.line_server.specs.declared.stream.Ending.TheVariants.{Done, ReadFault, InputTooLong}
 use Rattle.line_server.specs.Lines.{feed, LacksFeed, AreCut, ended, most_of_stream}
 use Rattle.line_server.specs.Outputs.{IsAnswered, AreAnswered, none, IsLinesOutput, IsOutput, of_lines, of_all}

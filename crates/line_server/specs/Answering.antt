@@ -1,5 +1,5 @@
 -- What the answers to commands hang on: which reply a command has, and which text a reply has.
-use Rattle.std.specs.Prelude.{◌≡◌, ℕ, List, [], ◌∷◌, ◌++◌, length}
+use Rattle.std.specs.Prelude.{◌≡◌, ◌≢◌, ℕ, List, [], ◌∷◌, ◌++◌, length}
 use Rattle.tile_model.specs.Tessellations.{TileKind}
 use Rattle.tree_model.specs.Automata.{TreeAutomaton}
 use Rattle.tree_model.specs.Names.{IsRing}
@@ -11,6 +11,7 @@ use Rattle.reply_model.specs.Histories.{History}
 use Rattle.reply_model.specs.WalkReadings.{IsWalkReply}
 use Rattle.reply_model.specs.TreeReadings.{IsTreeReply}
 use Rattle.command_text.specs.Replies.{line_feed, reply_text}
+use Rattle.session_core.specs.Sessions.{SessionState, IsSession}
 
 pub record Answering : Type 1 where
   -- the reply is due to the command after the history
@@ -37,6 +38,15 @@ pub record IsRingText
 abbrev pub IsReplyText : List TileKind → TreeAutomaton → ℕ → Reply → List ℕ → Type 0
 IsReplyText kinds a k (Tiles d size) text = IsRingText kinds a k d size text
 IsReplyText kinds a k x text = text ≡ reply_text x
+
+-- The names that follow the line of a reply: those of the ring that it lists, or none.
+pub data AreBehind (s : SessionState) : Reply → List (List ℕ) → Type 0 where
+  listed :
+      (d size : ℕ) (names : List (List ℕ))
+      → IsSession s
+      → IsRing s.rules.kinds s.rules.automaton s.kind d names
+      → AreBehind s (Tiles d size) names
+  not_listed : (x : Reply) → ((d size : ℕ) → x ≢ Tiles d size) → AreBehind s x []
 
 -- answers by what walks say
 abbrev pub over_walks : List TileKind → TreeAutomaton → ℕ → Answering

@@ -2,6 +2,7 @@
 use Rattle.std.specs.Prelude.{◌≡◌, ◌≢◌, ℕ, List, [], ◌∷◌, ◌++◌}
 use Rattle.std.specs.List.{All}
 use Rattle.std.specs.Str.Lines.{strip_carriage_return}
+use Rattle.line_server.specs.declared.stream.TheConstants.{LONGEST_STREAM}
 
 -- the byte that ends a line
 abbrev pub feed : ℕ
@@ -9,7 +10,7 @@ feed = 10
 
 -- the most bytes of a stream
 abbrev pub most_of_stream : ℕ
-most_of_stream = 268435456
+most_of_stream = LONGEST_STREAM
 
 -- no byte ends a line
 abbrev pub LacksFeed : List ℕ → Type 0

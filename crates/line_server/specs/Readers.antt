@@ -1,17 +1,21 @@
 -- The work on one piece of the stream.
 use Rattle.std.specs.Prelude.{◌≡◌, ℕ, ◌<◌, ◌≤◌, ◌-◌, Bool, true, false, IsTrue, List, [], ◌++◌, length, take, drop}
+use Rattle.std.specs.Prelude.{Option, None, Some}
 use Rattle.std.specs.List.{All}
 use Rattle.way_io.specs.Pieces.{AppendsPrefix}
 use Rattle.command_text.specs.CommandLines.{most_of_line}
+use Rattle.ring_listing.specs.Rings.{Listing}
 use Rattle.session_core.specs.Sessions.{SessionState}
 use Rattle.line_server.specs.declared.reader.Reader.{Reader}
+use Rattle.line_server.specs.declared.reader.TheConstants.{BUFFER_SIZE}
+use Rattle.line_server.specs.Answering.{name_lines}
 use Rattle.line_server.specs.Lines.{LacksFeed, AreCut, ended}
 use Rattle.line_server.specs.Outboxes.{HasSaid, HasBroken}
 use Rattle.line_server.specs.Sessions.{AnswersLine, AnswersLines, DuesLine, DuesLines}
 
 -- how many bytes are kept of the stream at a time
 abbrev pub buffer_size : ℕ
-buffer_size = 65536
+buffer_size = BUFFER_SIZE
 
 -- The bytes of the buffer that are kept leave room for more.
 pub record IsReader (r : Reader) : Type 0 where
@@ -38,6 +42,24 @@ pub record Keeps (r : Reader) (line : List ℕ) : Type 0 where
   pub long : r.lost ≡ true → most_of_line < length line
   pub empty : r.lost ≡ true → r.kept ≡ 0
   pub within : LacksFeed line
+
+-- What was measured of a line whose text is `whole`: it is too long, or its text is this one.
+pub record IsMeasured (is_long : Bool) (text line whole : List ℕ) : Type 0 where
+  pub long : is_long ≡ true → most_of_line < length line
+  pub short : is_long ≡ false → length line ≤ most_of_line
+  pub same : is_long ≡ false → whole ≡ text
+
+-- the names that a ring still gives, if there is one
+abbrev pub names_of : Option Listing → List (List ℕ)
+names_of None = []
+names_of (Some ring) = ring.rest
+
+-- The session answered a line with this text. The answer waits, but for the names that follow it.
+pub record HasAnsweredLine (old : SessionState) (line text waiting : List ℕ)
+    (new : SessionState) (waiting' : List ℕ) (names : List (List ℕ)) : Type 0 where
+  pub front : List ℕ
+  pub waits : waiting' ≡ waiting ++ front
+  pub session : AnswersLine old new line text (front ++ name_lines names)
 
 -- the session answered a line with this text, and the answer was said
 pub record HasReplied (tells : Bool) (old : SessionState) (line text taken waiting : List ℕ)

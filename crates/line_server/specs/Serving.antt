@@ -4,8 +4,8 @@ use Rattle.way_io.specs.Pieces.{AppendsPrefix}
 use Rattle.session_core.specs.Sessions.{SessionState, StandsForWalks}
 use Rattle.line_server.specs.declared.stream.Ending.{Ending}
 use Rattle.line_server.specs.declared.stream.Ending.TheVariants.{Done, ReadFault, InputTooLong, WriteFault, Memory}
-use Rattle.line_server.specs.declared.outbox.Stop.{Stop}
-use Rattle.line_server.specs.declared.outbox.Stop.TheVariants.{Write, Memory as NoMemory}
+use Rattle.line_server.specs.declared.writing.Stop.{Stop}
+use Rattle.line_server.specs.declared.writing.Stop.TheVariants.{Write, Memory as NoMemory}
 use Rattle.line_server.specs.Lines.{most_of_stream}
 use Rattle.reply_model.specs.Histories.{History}
 use Rattle.line_server.specs.Outputs.{IsLinesOutput, IsOutput, IsFrontOutput}

@@ -1,111 +1,94 @@
-//! One line, answered by a session.
-ghost use Rattle.std.specs.Prelude.{◌≡◌, ℕ, ◌+◌, ◌<◌, ◌≤◌, suc, List, length, IsErrOf, OnOk, OnErr};
-ghost use Rattle.way_io.specs.Counts.{Rose};
+//! One line, answered by a session into the bytes that wait to be written.
+ghost use Rattle.std.specs.Prelude.{◌≡◌, ℕ, ◌+◌, ◌<◌, ◌≤◌, ◌↔◌, ◌++◌, suc, List, length, IfOk, IsTrue};
 ghost use Rattle.command_text.specs.CommandLines.{IsSpelling, most_of_line};
 ghost use Rattle.lazy_map.specs.Texts.{most_texts};
 ghost use Rattle.session_core.specs.Sessions.{HasNumbers};
-ghost use Rattle.line_server.specs.Answering.{name_lines};
-ghost use Rattle.line_server.specs.Outboxes.{HasSaid, HasBroken};
-ghost use Rattle.line_server.specs.Readers.{HasReplied, HasFailed};
+ghost use Rattle.line_server.specs.Readers.{AreDropped, IsMeasured, HasAnsweredLine, names_of};
+ghost use Rattle.line_server.specs.Answering.{AreBehind};
 
-use crate::outbox::{Outbox, Stop};
-use command_text::{LONGEST_LINE, LineFault, bad_line, read_line, too_long_line};
+use command_text::{
+    CommandFault, LONGEST_LINE, bad_line, read_command, too_long_line, write_reply,
+};
 use reply_model::{Command, Reply};
 use ring_listing::Ring;
-use session_core::Session;
-use std::alloc::Global;
-use way_io::Sink;
+use session_core::{Session, laws};
+use std::alloc::{AllocError, Global};
 
-/// Answers a line with this text, which is not longer than the line. Fewer than 4,294,967,295 tiles
-/// have a text before it, and at most as many more behind it as the line has bytes.
-pub(crate) fn answer_line<O: Sink>(
-    alloc: Global,
-    session: &mut Session<'_>,
-    line: &[u8],
-    text: &[u8],
-    outbox: &mut Outbox<'_, O>,
-) -> Result<(), Stop>
-    requires within { length text.now ≤ length line.now }
-    requires room { length session.old.texts < most_texts }
-    ensures few { length session.new.texts ≤ length session.old.texts + length line.now }
-    ensures same_sink { outbox.new.sink.ghost_name ≡ outbox.old.sink.ghost_name }
-    ensures same_waiting { outbox.new.waiting.ghost_name ≡ outbox.old.waiting.ghost_name }
-    ensures replied { OnOk result (HasReplied O.tells session.old line.now text.now
-        (O.taken outbox.old.sink.now) outbox.old.waiting.now.items session.new
-        (O.taken outbox.new.sink.now) outbox.new.waiting.now.items) }
-    ensures failed { OnErr result (HasFailed O.tells session.old line.now text.now
-        (O.taken outbox.old.sink.now) outbox.old.waiting.now.items
-        (O.taken outbox.new.sink.now)) }
-    ensures later { O.faults outbox.old.sink.now ≤ O.faults outbox.new.sink.now }
-    ensures cause { IsErrOf result Stop.Write
-        → Rose (O.faults outbox.old.sink.now) (O.faults outbox.new.sink.now) }
+/// Whether a line is too long of which this is the end, behind what was dropped of it, if anything
+/// was.
+pub(crate) fn is_too_long(lost: bool, line: &[u8]) -> bool
+    ensures { (dropped : List ℕ) → AreDropped lost dropped
+        → IsTrue result ↔ (most_of_line < length (dropped ++ line.now)) }
 {
-    if line.len() > LONGEST_LINE {
-        return outbox.say(too_long_line());
+    if lost {
+        return true;
+    }
+    line.len() > LONGEST_LINE
+}
+
+/// Answers a line with this text, or one that is too long. What it is answered with is appended to
+/// the bytes that wait, and behind them the names that come back follow, each as a line.
+/// Fewer than 4,294,967,295 tiles have a text before it, and at most as many more behind it as the
+/// text has bytes.
+pub(crate) fn answer_line<'r>(
+    alloc: Global,
+    session: &mut Session<'r>,
+    is_long: bool,
+    text: &[u8],
+    waiting: &mut Vec<u8>,
+) -> Result<Option<Ring<'r>>, AllocError>
+    requires { length session.old.texts < most_texts }
+    ensures few { length session.new.texts ≤ length session.old.texts + length text.now }
+    ensures replied { (line whole : List ℕ) → IsMeasured is_long text.now line whole
+        → IfOk result (λ names. HasAnsweredLine session.old line whole waiting.old.items
+        session.new waiting.new.items (names_of names)) }
+{
+    if is_long {
+        waiting.extend_from_slice(too_long_line())?;
+        return Ok(None);
     }
     if text.is_empty() {
-        return Ok(());
+        return Ok(None);
     }
-    match read_line(alloc, text) {
-        Ok(command) => answer_command(session, &command, outbox),
-        Err(LineFault::TooLong) => outbox.say(too_long_line()),
-        Err(LineFault::Bad) => outbox.say(bad_line()),
-        Err(LineFault::Memory) => Err(Stop::Memory),
+    match read_command(alloc, text) {
+        Ok(command) => answer_command(session, &command, waiting),
+        Err(CommandFault::Bad) => {
+            waiting.extend_from_slice(bad_line())?;
+            Ok(None)
+        }
+        Err(CommandFault::Memory) => Err(AllocError),
     }
 }
 
-/// Answers a command: says the line of its reply, and the names behind it where it lists a ring.
-fn answer_command<O: Sink>(
-    session: &mut Session<'_>,
+/// Answers a command: appends the line of its reply, and gives the names that follow.
+fn answer_command<'r>(
+    session: &mut Session<'r>,
     command: &Command,
-    outbox: &mut Outbox<'_, O>,
-) -> Result<(), Stop>
+    waiting: &mut Vec<u8>,
+) -> Result<Option<Ring<'r>>, AllocError>
     requires numbers { HasNumbers command.now }
     requires room { length session.old.texts < most_texts }
     ensures few { length session.new.texts ≤ suc (length session.old.texts) }
-    ensures same_sink { outbox.new.sink.ghost_name ≡ outbox.old.sink.ghost_name }
-    ensures same_waiting { outbox.new.waiting.ghost_name ≡ outbox.old.waiting.ghost_name }
     ensures replied { (line text : List ℕ) → length line ≤ most_of_line
         → IsSpelling text command.now
-        → OnOk result (HasReplied O.tells session.old line text
-        (O.taken outbox.old.sink.now) outbox.old.waiting.now.items session.new
-        (O.taken outbox.new.sink.now) outbox.new.waiting.now.items) }
-    ensures failed { (line text : List ℕ) → length line ≤ most_of_line
-        → IsSpelling text command.now
-        → OnErr result (HasFailed O.tells session.old line text
-        (O.taken outbox.old.sink.now) outbox.old.waiting.now.items
-        (O.taken outbox.new.sink.now)) }
-    ensures later { O.faults outbox.old.sink.now ≤ O.faults outbox.new.sink.now }
-    ensures cause { IsErrOf result Stop.Write
-        → Rose (O.faults outbox.old.sink.now) (O.faults outbox.new.sink.now) }
+        → IfOk result (λ names. HasAnsweredLine session.old line text waiting.old.items
+        session.new waiting.new.items (names_of names)) }
 {
+    // The session answers by what the tree says, before and after, and that is what walks say.
+    laws::readings(session);
     let reply = session.apply(command)?;
-    match reply {
-        Reply::Tiles { d, .. } => {
-            let mut ring = session.names_of_ring(d)?;
-            outbox.say_reply(&reply)?;
-            say_names(&mut ring, outbox)
-        }
-        _ => outbox.say_reply(&reply),
-    }
+    laws::readings(session);
+    let names = names_behind(session, &reply)?;
+    write_reply(waiting, &reply)?;
+    Ok(names)
 }
 
-/// Says the names that a ring still gives, each as a line.
-fn say_names<O: Sink>(ring: &mut Ring<'_>, outbox: &mut Outbox<'_, O>) -> Result<(), Stop>
-    ensures same_sink { outbox.new.sink.ghost_name ≡ outbox.old.sink.ghost_name }
-    ensures same_waiting { outbox.new.waiting.ghost_name ≡ outbox.old.waiting.ghost_name }
-    ensures said { OnOk result (HasSaid O.tells
-        (O.taken outbox.old.sink.now) outbox.old.waiting.now.items (name_lines ring.old.rest)
-        (O.taken outbox.new.sink.now) outbox.new.waiting.now.items) }
-    ensures broken { OnErr result (HasBroken O.tells
-        (O.taken outbox.old.sink.now) outbox.old.waiting.now.items (name_lines ring.old.rest)
-        (O.taken outbox.new.sink.now)) }
-    ensures later { O.faults outbox.old.sink.now ≤ O.faults outbox.new.sink.now }
-    ensures cause { IsErrOf result Stop.Write
-        → Rose (O.faults outbox.old.sink.now) (O.faults outbox.new.sink.now) }
+/// The names that follow the line of a reply: those of the ring that it lists.
+fn names_behind<'r>(session: &Session<'r>, x: &Reply) -> Result<Option<Ring<'r>>, AllocError>
+    ensures { IfOk result (λ names. AreBehind session.now x.now (names_of names)) }
 {
-    while let Some(name) = ring.step() {
-        outbox.say_name(name)?;
+    match x {
+        Reply::Tiles { d, .. } => Ok(Some(session.names_of_ring(*d)?)),
+        _ => Ok(None),
     }
-    Ok(())
 }

@@ -4,8 +4,8 @@
 mod answer;
 pub mod laws;
 mod lines;
-mod outbox;
 mod reader;
 mod stream;
+mod writing;
 
 pub use stream::{Ending, serve};

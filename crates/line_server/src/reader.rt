@@ -6,10 +6,10 @@ ghost use Rattle.lazy_map.specs.Texts.{most_texts};
 ghost use Rattle.line_server.specs.Lines.{LacksFeed};
 ghost use Rattle.line_server.specs.Readers.{IsReader, Keeps, AreDropped, HasComeTo, HasRead, HasStopped, HasEnded, HasFailed, HasReplied, IsTextBehind, behind, buffer_size};
 
-use crate::answer::answer_line;
+use crate::answer::{answer_line, is_too_long};
 use crate::lines::{next_line, text_of};
-use crate::outbox::{Outbox, Stop};
-use command_text::{LONGEST_LINE, too_long_line};
+use crate::writing::{Stop, pass_names, write_all, write_if_full};
+use command_text::LONGEST_LINE;
 use session_core::Session;
 use std::alloc::{AllocError, Global};
 use way_io::{ReadFault, Sink, Source};
@@ -64,32 +64,31 @@ impl Reader {
         alloc: Global,
         session: &mut Session<'_>,
         fresh: usize,
-        outbox: &mut Outbox<'_, O>,
+        waiting: &mut Vec<u8>,
+        out: &mut O,
     ) -> Result<(), Stop>
         requires shape { IsReader self.old }
         requires within { self.old.kept + fresh ≤ buffer_size }
         requires room { length session.old.texts + (self.old.kept + fresh) < most_texts }
-        requires written { outbox.old.waiting.now.items ≡ [] }
+        requires written { waiting.old.items ≡ [] }
         ensures few { OnOk result (length session.new.texts + self.new.kept
             ≤ length session.old.texts + (self.old.kept + fresh)) }
-        ensures same_sink { outbox.new.sink.ghost_name ≡ outbox.old.sink.ghost_name }
-        ensures same_waiting { outbox.new.waiting.ghost_name ≡ outbox.old.waiting.ghost_name }
         ensures shape { OnOk result (IsReader self.new) }
-        ensures written { OnOk result (outbox.new.waiting.now.items ≡ []) }
+        ensures written { OnOk result (waiting.new.items ≡ []) }
         ensures answered { (line : List ℕ) → Keeps self.old line
             → OnOk result (HasRead O.tells session.old
             (line ++ take fresh (drop self.old.kept self.old.buffer.items))
-            (O.taken outbox.old.sink.now) session.new self.new (O.taken outbox.new.sink.now)) }
+            (O.taken out.old) session.new self.new (O.taken out.new)) }
         ensures stopped { (line : List ℕ) → Keeps self.old line
             → OnErr result (HasStopped O.tells session.old
             (line ++ take fresh (drop self.old.kept self.old.buffer.items))
-            (O.taken outbox.old.sink.now) (O.taken outbox.new.sink.now)) }
-        ensures later { O.faults outbox.old.sink.now ≤ O.faults outbox.new.sink.now }
+            (O.taken out.old) (O.taken out.new)) }
+        ensures later { O.faults out.old ≤ O.faults out.new }
         ensures cause { IsErrOf result Stop.Write
-            → Rose (O.faults outbox.old.sink.now) (O.faults outbox.new.sink.now) }
+            → Rose (O.faults out.old) (O.faults out.new) }
     {
         let end = self.kept + fresh;
-        let (rest, lost) = answer_lines(alloc, session, &self.buffer[..end], self.lost, outbox)?;
+        let (rest, lost) = answer_lines(alloc, session, &self.buffer[..end], self.lost, waiting, out)?;
         self.keep(end, rest, lost);
         Ok(())
     }
@@ -121,26 +120,25 @@ impl Reader {
         &self,
         alloc: Global,
         session: &mut Session<'_>,
-        outbox: &mut Outbox<'_, O>,
+        waiting: &mut Vec<u8>,
+        out: &mut O,
     ) -> Result<(), Stop>
         requires shape { IsReader self.now }
         requires room { length session.old.texts + self.now.kept < most_texts }
-        requires written { outbox.old.waiting.now.items ≡ [] }
-        ensures same_sink { outbox.new.sink.ghost_name ≡ outbox.old.sink.ghost_name }
-        ensures same_waiting { outbox.new.waiting.ghost_name ≡ outbox.old.waiting.ghost_name }
+        requires written { waiting.old.items ≡ [] }
         ensures ended { (line : List ℕ) → Keeps self.now line
-            → OnOk result (HasEnded O.tells session.old line (O.taken outbox.old.sink.now)
-            session.new (O.taken outbox.new.sink.now)) }
+            → OnOk result (HasEnded O.tells session.old line (O.taken out.old)
+            session.new (O.taken out.new)) }
         ensures failed { (line : List ℕ) → Keeps self.now line
             → OnErr result (HasFailed O.tells session.old line line
-            (O.taken outbox.old.sink.now) [] (O.taken outbox.new.sink.now)) }
-        ensures later { O.faults outbox.old.sink.now ≤ O.faults outbox.new.sink.now }
+            (O.taken out.old) [] (O.taken out.new)) }
+        ensures later { O.faults out.old ≤ O.faults out.new }
         ensures cause { IsErrOf result Stop.Write
-            → Rose (O.faults outbox.old.sink.now) (O.faults outbox.new.sink.now) }
+            → Rose (O.faults out.old) (O.faults out.new) }
     {
         let line = &self.buffer[..self.kept];
-        answer_end(alloc, session, line, line, self.lost, outbox)?;
-        outbox.write()?;
+        answer_one(alloc, session, line, line, self.lost, waiting, out)?;
+        write_all(waiting, out)?;
         Ok(())
     }
 }
@@ -153,68 +151,67 @@ fn answer_lines<O: Sink>(
     session: &mut Session<'_>,
     bytes: &[u8],
     lost: bool,
-    outbox: &mut Outbox<'_, O>,
+    waiting: &mut Vec<u8>,
+    out: &mut O,
 ) -> Result<(usize, bool), Stop>
     requires room { length session.old.texts + length bytes.now < most_texts }
-    requires written { outbox.old.waiting.now.items ≡ [] }
+    requires written { waiting.old.items ≡ [] }
     ensures few { IfOk result (λ end.
         length session.new.texts + end.0 ≤ length session.old.texts + length bytes.now) }
-    ensures same_sink { outbox.new.sink.ghost_name ≡ outbox.old.sink.ghost_name }
-    ensures same_waiting { outbox.new.waiting.ghost_name ≡ outbox.old.waiting.ghost_name }
     ensures behind { IfOk result (λ end. end.0 ≤ length bytes.now) }
-    ensures written { OnOk result (outbox.new.waiting.now.items ≡ []) }
+    ensures written { OnOk result (waiting.new.items ≡ []) }
     ensures answered { (dropped : List ℕ) → AreDropped lost dropped
         → IfOk result (λ end. HasComeTo O.tells session.old dropped bytes.now
-        (O.taken outbox.old.sink.now) session.new end.0 end.1 (O.taken outbox.new.sink.now)) }
+        (O.taken out.old) session.new end.0 end.1 (O.taken out.new)) }
     ensures stopped { (dropped : List ℕ) → AreDropped lost dropped
         → OnErr result (HasStopped O.tells session.old (dropped ++ bytes.now)
-        (O.taken outbox.old.sink.now) (O.taken outbox.new.sink.now)) }
-    ensures later { O.faults outbox.old.sink.now ≤ O.faults outbox.new.sink.now }
+        (O.taken out.old) (O.taken out.new)) }
+    ensures later { O.faults out.old ≤ O.faults out.new }
     ensures cause { IsErrOf result Stop.Write
-        → Rose (O.faults outbox.old.sink.now) (O.faults outbox.new.sink.now) }
+        → Rose (O.faults out.old) (O.faults out.new) }
 {
     let mut lost = lost;
     let mut rest = bytes;
     while let Some((line, behind)) = next_line(rest) {
-        answer_end(alloc, session, line, text_of(line), lost, outbox)?;
+        answer_one(alloc, session, line, text_of(line), lost, waiting, out)?;
         lost = false;
         rest = behind;
     }
-    outbox.write()?;
+    write_all(waiting, out)?;
     Ok((rest.len(), lost))
 }
 
-/// Answers a line by its end and its text: it is too long if its beginning was dropped.
-fn answer_end<O: Sink>(
+/// Answers a line by its end and its text, and passes the answer on. The line is too long if its
+/// beginning was dropped.
+fn answer_one<O: Sink>(
     alloc: Global,
     session: &mut Session<'_>,
     line: &[u8],
     text: &[u8],
     lost: bool,
-    outbox: &mut Outbox<'_, O>,
+    waiting: &mut Vec<u8>,
+    out: &mut O,
 ) -> Result<(), Stop>
     requires within { length text.now ≤ length line.now }
     requires room { length session.old.texts < most_texts }
     ensures few { length session.new.texts ≤ length session.old.texts + length line.now }
-    ensures same_sink { outbox.new.sink.ghost_name ≡ outbox.old.sink.ghost_name }
-    ensures same_waiting { outbox.new.waiting.ghost_name ≡ outbox.old.waiting.ghost_name }
     ensures replied { (dropped whole : List ℕ) → AreDropped lost dropped
         → IsTextBehind lost text.now whole
         → OnOk result (HasReplied O.tells session.old (dropped ++ line.now) whole
-        (O.taken outbox.old.sink.now) outbox.old.waiting.now.items session.new
-        (O.taken outbox.new.sink.now) outbox.new.waiting.now.items) }
+        (O.taken out.old) waiting.old.items session.new
+        (O.taken out.new) waiting.new.items) }
     ensures failed { (dropped whole : List ℕ) → AreDropped lost dropped
         → IsTextBehind lost text.now whole
         → OnErr result (HasFailed O.tells session.old (dropped ++ line.now) whole
-        (O.taken outbox.old.sink.now) outbox.old.waiting.now.items
-        (O.taken outbox.new.sink.now)) }
-    ensures later { O.faults outbox.old.sink.now ≤ O.faults outbox.new.sink.now }
+        (O.taken out.old) waiting.old.items
+        (O.taken out.new)) }
+    ensures later { O.faults out.old ≤ O.faults out.new }
     ensures cause { IsErrOf result Stop.Write
-        → Rose (O.faults outbox.old.sink.now) (O.faults outbox.new.sink.now) }
+        → Rose (O.faults out.old) (O.faults out.new) }
 {
-    if lost {
-        outbox.say(too_long_line())
-    } else {
-        answer_line(alloc, session, line, text, outbox)
+    let is_long = is_too_long(lost, line);
+    match answer_line(alloc, session, is_long, text, waiting)? {
+        Some(mut ring) => pass_names(&mut ring, waiting, out),
+        None => Ok(write_if_full(waiting, out)?),
     }
 }

@@ -9,14 +9,14 @@ ghost use Rattle.line_server.specs.Sessions.{Continues, answering_of};
 ghost use Rattle.line_server.specs.Serving.{EndsAs, ending_of};
 ghost use Rattle.line_server.specs.Endings.{IsServed, IsCutOff, IsOverrun, IsBegun, GivesInOrder, TakesMore};
 
-use crate::outbox::{Outbox, Stop};
 use crate::reader::Reader;
+use crate::writing::Stop;
 use session_core::Session;
 use std::alloc::Global;
 use way_io::{Sink, Source};
 
 /// The most bytes that a stream may have.
-const MOST: usize = 268_435_456;
+const LONGEST_STREAM: usize = 268_435_456;
 
 /// How the work on a stream ended.
 #[derive(Clone, Copy, Debug, PartialEq, Eq)]
@@ -84,16 +84,16 @@ pub fn serve<I: Source, O: Sink>(
     ensures kept { IsTrue O.tells → TakesMore (O.taken out.old) (O.taken out.new) }
 {
     let mut waiting = Vec::new(alloc);
-    serve_through(alloc, session, input, out, &mut waiting)
+    serve_lines(alloc, session, input, &mut waiting, out)
 }
 
 /// Answers the lines of a stream, and tells in one clause how that ended. Nothing waits before.
-fn serve_through<I: Source, O: Sink>(
+fn serve_lines<I: Source, O: Sink>(
     alloc: Global,
     session: &mut Session<'_>,
     input: &mut I,
-    out: &mut O,
     waiting: &mut Vec<u8>,
+    out: &mut O,
 ) -> Ending
     requires room { length session.old.texts + most_of_stream < most_texts }
     requires written { waiting.old.items ≡ [] }
@@ -106,31 +106,6 @@ fn serve_through<I: Source, O: Sink>(
     ensures reads_later { I.faults input.old ≤ I.faults input.new }
     ensures writes_later { O.faults out.old ≤ O.faults out.new }
 {
-    let mut outbox = Outbox::new(out, waiting);
-    serve_lines(alloc, session, input, &mut outbox)
-}
-
-/// Answers the lines of a stream into an outbox, in which nothing waits before.
-fn serve_lines<I: Source, O: Sink>(
-    alloc: Global,
-    session: &mut Session<'_>,
-    input: &mut I,
-    outbox: &mut Outbox<'_, O>,
-) -> Ending
-    requires room { length session.old.texts + most_of_stream < most_texts }
-    requires written { outbox.old.waiting.now.items ≡ [] }
-    ensures same_sink { outbox.new.sink.ghost_name ≡ outbox.old.sink.ghost_name }
-    ensures same_waiting { outbox.new.waiting.ghost_name ≡ outbox.old.waiting.ghost_name }
-    ensures ends { EndsAs I.tells O.tells
-        session.old (I.left input.old) (O.taken outbox.old.sink.now)
-        session.new (I.left input.new) (O.taken outbox.new.sink.now) result }
-    ensures read_cause { result ≡ Ending.ReadFault
-        → Rose (I.faults input.old) (I.faults input.new) }
-    ensures write_cause { result ≡ Ending.WriteFault
-        → Rose (O.faults outbox.old.sink.now) (O.faults outbox.new.sink.now) }
-    ensures reads_later { I.faults input.old ≤ I.faults input.new }
-    ensures writes_later { O.faults outbox.old.sink.now ≤ O.faults outbox.new.sink.now }
-{
     let Ok(mut reader) = Reader::new(alloc) else {
         return Ending::Memory;
     };
@@ -140,13 +115,13 @@ fn serve_lines<I: Source, O: Sink>(
             return Ending::ReadFault;
         };
         if count == 0 {
-            if let Err(stop) = reader.finish(alloc, session, outbox) {
+            if let Err(stop) = reader.finish(alloc, session, waiting, out) {
                 return ending_of(stop);
             }
             return Ending::Done;
         }
-        let fresh = count.min(MOST - total);
-        if let Err(stop) = reader.answer(alloc, session, fresh, outbox) {
+        let fresh = count.min(LONGEST_STREAM - total);
+        if let Err(stop) = reader.answer(alloc, session, fresh, waiting, out) {
             return ending_of(stop);
         }
         if fresh < count {

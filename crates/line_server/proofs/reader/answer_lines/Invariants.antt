@@ -6,18 +6,16 @@ use Rattle.line_server.proofs.reader.answer_lines.Given as goal
 
 abbrev pub invariant-loop-line : goal.invariant-loop-line
 invariant-loop-line g l = record {
-  same_sink : l.outbox.sink.ghost_name ≡ l.initial.outbox.sink.ghost_name;
-  same_waiting : l.outbox.waiting.ghost_name ≡ l.initial.outbox.waiting.ghost_name;
   going :
       (dropped : List ℕ)
       → AreDropped l.initial.lost dropped
       → Going g.O.Sink.tells l.initial.session dropped l.bytes
-      (g.O.Sink.taken l.initial.outbox.sink.now) l.session l.lost l.rest
-      (g.O.Sink.taken l.outbox.sink.now) l.outbox.waiting.now.items;
+      (g.O.Sink.taken l.initial.out) l.session l.lost l.rest
+      (g.O.Sink.taken l.out) l.waiting.items;
   front : (front : List ℕ) × (l.bytes ≡ front ++ l.rest);
   few :
       length l.session.texts + length l.rest ≤ length l.initial.session.texts + length l.bytes;
-  later : g.O.Sink.faults l.initial.outbox.sink.now ≤ g.O.Sink.faults l.outbox.sink.now;
+  later : g.O.Sink.faults l.initial.out ≤ g.O.Sink.faults l.out;
 }
 
 abbrev pub decreases-loop-line : goal.decreases-loop-line

@@ -12,8 +12,6 @@ returns-in_default-clause-ends g c = no_room _ _ _ _ _
 
 pub loop-count-init : goal.loop-count-init
 loop-count-init g c = record {
-  same_sink = refl;
-  same_waiting = refl;
   shape = c.in-Ok.ensures.shape;
   written = c.requires.written;
   serving = starts _ _ _ _ _ c.in-Ok.reader c.in-Ok.ensures.nothing;
@@ -33,13 +31,13 @@ returns-in-Err-clause-ends g c =
     let before = c.loop-count.invariant.serving in
     let none = c.if-count-eq0.true in
     subst (EndsAs _ _ _ _ _ _ _ _) (sym c.ending_of.ensures)
-    (failed_end _ _ _ _ _ _ _ _ _ _ before c.in-Err.stop c.finish.new.session (g.I.Source.left c.read.new.input) (g.O.Sink.taken c.finish.new.outbox.sink.now) c.loop-count.invariant.few (λ t. c.in-Ok-read.ensures.end t none) (λ t. ends_empty _ c.in-Ok-read.count _ _ none (c.in-Ok-read.ensures.next t) (c.in-Ok-read.ensures.end t none)) (c.in-Err.ensures.failed before.line (c.read.ensures.keeps before.line before.keeps)))
+    (failed_end _ _ _ _ _ _ _ _ _ _ before c.in-Err.stop c.finish.new.session (g.I.Source.left c.read.new.input) (g.O.Sink.taken c.finish.new.out) c.loop-count.invariant.few (λ t. c.in-Ok-read.ensures.end t none) (λ t. ends_empty _ c.in-Ok-read.count _ _ none (c.in-Ok-read.ensures.next t) (c.in-Ok-read.ensures.end t none)) (c.in-Err.ensures.failed before.line (c.read.ensures.keeps before.line before.keeps)))
 
 pub returns-then-count-eq0-clause-ends : goal.returns-then-count-eq0-clause-ends
 returns-then-count-eq0-clause-ends g c =
     let before = c.loop-count.invariant.serving in
     let none = c.if-count-eq0.true in
-    done_end _ _ _ _ _ _ _ _ _ _ before c.finish.new.session (g.I.Source.left c.read.new.input) (g.O.Sink.taken c.finish.new.outbox.sink.now) c.loop-count.invariant.few (λ t. c.in-Ok-read.ensures.end t none) (λ t. ends_empty _ c.in-Ok-read.count _ _ none (c.in-Ok-read.ensures.next t) (c.in-Ok-read.ensures.end t none)) (c.in_default-finish.ensures.ended before.line (c.read.ensures.keeps before.line before.keeps))
+    done_end _ _ _ _ _ _ _ _ _ _ before c.finish.new.session (g.I.Source.left c.read.new.input) (g.O.Sink.taken c.finish.new.out) c.loop-count.invariant.few (λ t. c.in-Ok-read.ensures.end t none) (λ t. ends_empty _ c.in-Ok-read.count _ _ none (c.in-Ok-read.ensures.next t) (c.in-Ok-read.ensures.end t none)) (c.in_default-finish.ensures.ended before.line (c.read.ensures.keeps before.line before.keeps))
 
 pub returns-in-Err-answer-clause-ends : goal.returns-in-Err-answer-clause-ends
 returns-in-Err-answer-clause-ends g c =
@@ -50,7 +48,7 @@ returns-in-Err-answer-clause-ends g c =
     let few : c.min-fresh.result ≤ c.in-Ok-read.count = omega (arith, c.min-fresh.ensures) in
     let inside : c.loop-count.total + c.min-fresh.result ≤ most_of_stream = omega (arith, c.min-fresh.ensures, c.loop-count.invariant.few) in
     subst (EndsAs _ _ _ _ _ _ _ _) (sym c.ending_of-in-Err-answer.ensures)
-    (stopped_end _ _ _ _ _ _ _ _ _ _ before c.in-Err-answer.stop c.answer.new.session (take c.min-fresh.result read) (more read c.in-Ok-read.count c.min-fresh.result few within) (g.I.Source.left c.read.new.input) (g.O.Sink.taken c.answer.new.outbox.sink.now) c.min-fresh.result (λ t. cuts read c.in-Ok-read.count c.min-fresh.result few within _ _ (c.in-Ok-read.ensures.next t)) (fresh_length read c.in-Ok-read.count c.min-fresh.result few within) inside (c.in-Err-answer.ensures.stopped before.line (c.read.ensures.keeps before.line before.keeps)))
+    (stopped_end _ _ _ _ _ _ _ _ _ _ before c.in-Err-answer.stop c.answer.new.session (take c.min-fresh.result read) (more read c.in-Ok-read.count c.min-fresh.result few within) (g.I.Source.left c.read.new.input) (g.O.Sink.taken c.answer.new.out) c.min-fresh.result (λ t. cuts read c.in-Ok-read.count c.min-fresh.result few within _ _ (c.in-Ok-read.ensures.next t)) (fresh_length read c.in-Ok-read.count c.min-fresh.result few within) inside (c.in-Err-answer.ensures.stopped before.line (c.read.ensures.keeps before.line before.keeps)))
 
 pub returns-then-fresh-count-clause-ends : goal.returns-then-fresh-count-clause-ends
 returns-then-fresh-count-clause-ends g c =
@@ -62,7 +60,7 @@ returns-then-fresh-count-clause-ends g c =
     let full : c.loop-count.total + c.min-fresh.result ≡ most_of_stream = omega (arith, c.min-fresh.ensures, c.loop-count.invariant.few, c.if-fresh-count.true) in
     let left : List ℕ = g.I.Source.left c.read.new.input in
     let over = more read c.in-Ok-read.count c.min-fresh.result few within in
-    let on = serves_on _ _ _ _ _ _ _ _ _ _ before c.answer.new.session c.answer.new.self (take c.min-fresh.result read) (over ++ left) (g.O.Sink.taken c.answer.new.outbox.sink.now) c.min-fresh.result (λ t. cuts read c.in-Ok-read.count c.min-fresh.result few within _ _ (c.in-Ok-read.ensures.next t)) (fresh_length read c.in-Ok-read.count c.min-fresh.result few within) (c.in_default-answer.ensures.answered before.line (c.read.ensures.keeps before.line before.keeps)) in
+    let on = serves_on _ _ _ _ _ _ _ _ _ _ before c.answer.new.session c.answer.new.self (take c.min-fresh.result read) (over ++ left) (g.O.Sink.taken c.answer.new.out) c.min-fresh.result (λ t. cuts read c.in-Ok-read.count c.min-fresh.result few within _ _ (c.in-Ok-read.ensures.next t)) (fresh_length read c.in-Ok-read.count c.min-fresh.result few within) (c.in_default-answer.ensures.answered before.line (c.read.ensures.keeps before.line before.keeps)) in
     over_end _ _ _ _ _ _ _ _ _ _ on over left (λ t. refl) full (some_more read c.in-Ok-read.count c.min-fresh.result few within c.if-fresh-count.true)
 
 pub loop-count-preserved : goal.loop-count-preserved
@@ -74,11 +72,9 @@ loop-count-preserved g c =
     let few : c.min-fresh.result ≤ c.in-Ok-read.count = omega (arith, c.min-fresh.ensures) in
     let whole : c.in-Ok-read.count ≡ c.min-fresh.result = omega (arith, c.min-fresh.ensures, c.if-fresh-count.false) in
     record {
-      same_sink = c.in_default-answer.ensures.same_sink ∙ c.loop-count.invariant.same_sink;
-      same_waiting = c.in_default-answer.ensures.same_waiting ∙ c.loop-count.invariant.same_waiting;
       shape = c.in_default-answer.ensures.shape;
       written = c.in_default-answer.ensures.written;
-      serving = serves_on _ _ _ _ _ _ _ _ _ _ before c.answer.new.session c.answer.new.self (take c.min-fresh.result read) (g.I.Source.left c.read.new.input) (g.O.Sink.taken c.answer.new.outbox.sink.now) c.min-fresh.result (λ t. c.in-Ok-read.ensures.next t ∙ ap (λ n. take n read ++ g.I.Source.left c.read.new.input) whole) (fresh_length read c.in-Ok-read.count c.min-fresh.result few within) (c.in_default-answer.ensures.answered before.line (c.read.ensures.keeps before.line before.keeps));
+      serving = serves_on _ _ _ _ _ _ _ _ _ _ before c.answer.new.session c.answer.new.self (take c.min-fresh.result read) (g.I.Source.left c.read.new.input) (g.O.Sink.taken c.answer.new.out) c.min-fresh.result (λ t. c.in-Ok-read.ensures.next t ∙ ap (λ n. take n read ++ g.I.Source.left c.read.new.input) whole) (fresh_length read c.in-Ok-read.count c.min-fresh.result few within) (c.in_default-answer.ensures.answered before.line (c.read.ensures.keeps before.line before.keeps));
       few = omega (arith, c.min-fresh.ensures, c.loop-count.invariant.few);
       texts =
           omega (

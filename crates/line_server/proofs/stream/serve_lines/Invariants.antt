@@ -7,17 +7,15 @@ use Rattle.line_server.proofs.stream.serve_lines.Given as goal
 
 abbrev pub invariant-loop-count : goal.invariant-loop-count
 invariant-loop-count g l = record {
-  same_sink : l.outbox.sink.ghost_name ≡ l.initial.outbox.sink.ghost_name;
-  same_waiting : l.outbox.waiting.ghost_name ≡ l.initial.outbox.waiting.ghost_name;
   shape : IsReader l.reader;
-  written : l.outbox.waiting.now.items ≡ [];
+  written : l.waiting.items ≡ [];
   serving : Serving g.I.Source.tells g.O.Sink.tells l.initial.session
-      (g.I.Source.left l.initial.input) (g.O.Sink.taken l.initial.outbox.sink.now) l.session l.reader
-      (g.I.Source.left l.input) (g.O.Sink.taken l.outbox.sink.now) l.total;
+      (g.I.Source.left l.initial.input) (g.O.Sink.taken l.initial.out) l.session l.reader
+      (g.I.Source.left l.input) (g.O.Sink.taken l.out) l.total;
   few : l.total ≤ most_of_stream;
   texts : length l.session.texts + l.reader.kept ≤ length l.initial.session.texts + l.total;
   reads_later : g.I.Source.faults l.initial.input ≤ g.I.Source.faults l.input;
-  writes_later : g.O.Sink.faults l.initial.outbox.sink.now ≤ g.O.Sink.faults l.outbox.sink.now;
+  writes_later : g.O.Sink.faults l.initial.out ≤ g.O.Sink.faults l.out;
 }
 
 abbrev pub decreases-loop-count : goal.decreases-loop-count

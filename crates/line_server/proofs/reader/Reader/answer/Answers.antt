@@ -14,5 +14,5 @@ returns-clause-answered g c = λ line k.
     let end = c.args.self.now.kept + c.args.fresh in
     has_read _ _ c.args.self.now line c.args.fresh (take end c.args.self.now.buffer.items) _ k refl
     _ _ c.in_ok-rest.rest c.in_ok-rest.lost _
-    (λ dropped d. subst (λ bytes. HasComeTo g.O.Sink.tells c.args.session.now dropped (take end bytes) (g.O.Sink.taken c.args.outbox.now.sink.now) c.answer_lines.new.session c.in_ok-rest.rest c.in_ok-rest.lost (g.O.Sink.taken c.answer_lines.new.outbox.sink.now)) c.deref.ensures.value (c.in_ok-rest.ensures.answered dropped d))
+    (λ dropped d. subst (λ bytes. HasComeTo g.O.Sink.tells c.args.session.now dropped (take end bytes) (g.O.Sink.taken c.args.out.now) c.answer_lines.new.session c.in_ok-rest.rest c.in_ok-rest.lost (g.O.Sink.taken c.answer_lines.new.out)) c.deref.ensures.value (c.in_ok-rest.ensures.answered dropped d))
     c.keep.ensures.keeps
