@@ -149,8 +149,7 @@ fn offsets(alloc: Global, class: &CornerClass) -> Result<Vec<i8>, Failure> {
 }
 
 /// The corner type of a class, of which the outer corner and all depths must be known.
-fn corner_type(alloc: Global, class: &CornerClass) -> Result<Corner, Failure>
-{
+fn corner_type(alloc: Global, class: &CornerClass) -> Result<Corner, Failure> {
     Ok(Corner {
         offsets: offsets(alloc, class)?,
         outer: class.outer.ok_or(Failure::Contradiction)?,

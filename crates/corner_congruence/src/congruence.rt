@@ -44,9 +44,9 @@ fn automaton(alloc: Global, tess: &Tessellation, types: &[ConeType]) -> Result<A
 /// None where this contradicts itself: where a corner would have two places, or a place two depths,
 /// or corners of one type two valences, or where a place of a corner type has no tile. None too
 /// where a cone type has no type of the tessellation, or too few or too many rules, where a child
-/// or a root is missing, where there are over 100,000 cone types or 20,000 corner types, and
-/// where an offset is out of the range of an `i8`. Whether the automaton meets the conditions is not
-/// said: `structure_check` tells.
+/// or a root is missing, where there are over 100,000 cone types or 20,000 corner types, and where
+/// an offset is out of the range of an `i8`. Whether the automaton meets the conditions is not said:
+/// `structure_check` tells.
 ///
 /// # Errors
 ///
