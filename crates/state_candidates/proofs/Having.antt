@@ -2,7 +2,6 @@
 use Rattle.std.proofs.Common.{◌≡◌, ℕ, zero, suc, ◌+◌, ◌-◌, ◌<◌, ◌≤◌, List, take, length, sum_by, slice_index_or, Option, Some, sym, ap, ◌∙◌, subst, inl, inr, arith, add-one}
 use Rattle.std.proofs.Math.Nat.{eq-or-lt_of_le}
 use Rattle.std.proofs.lemmas.Bool.{cases_lt}
-use Rattle.std.proofs.lemmas.Option.{same_Some}
 use Rattle.look_classes.specs.Classes.{ClassLists}
 use Rattle.state_candidates.specs.Reading.{IsFirstWith}
 use Rattle.state_candidates.specs.Candidates.{lists_at}
