@@ -12,7 +12,7 @@ use structure_check::{Rules, check};
 use tess_text::read_tess;
 pub use texts::{
     HEPTAGONS_AND_HEXAGONS_RULES, HEPTAGONS_AND_HEXAGONS_TESS, HEPTAGONS_RULES, HEPTAGONS_TESS,
-    PENTAGONS_RULES, PENTAGONS_TESS,
+    PENTAGONS_RANKED_RULES, PENTAGONS_RULES, PENTAGONS_TESS,
 };
 
 /// The rules that two texts of fewer than 2^32 - 1 bytes spell, where both are good, there are so
@@ -63,7 +63,10 @@ pub fn heptagons_and_hexagons(alloc: Global) -> Option<Rules>
 
 #[cfg(test)]
 mod tests {
-    use crate::{heptagons, heptagons_and_hexagons, pentagons};
+    use crate::{
+        PENTAGONS_RANKED_RULES, PENTAGONS_TESS, heptagons, heptagons_and_hexagons, pentagons,
+        spelled_rules,
+    };
     use std::test::Fail;
 
     #[test]
@@ -73,6 +76,7 @@ mod tests {
             pentagons(alloc),
             heptagons(alloc),
             heptagons_and_hexagons(alloc),
+            spelled_rules(alloc, PENTAGONS_TESS, PENTAGONS_RANKED_RULES, 1),
         ];
         for sample in samples {
             assert!(rt; sample.is_some());
