@@ -1,6 +1,6 @@
 -- What the calls that compare two walkers come to.
-use Rattle.std.proofs.Common.{◌≡◌, ℕ, ◌<◌, ◌⊎◌, inl, inr, List, sym, ◌∙◌, subst}
-use Rattle.std.specs.Prelude.{Some, Result, Ok, Err, IsErrOf}
+use Rattle.std.proofs.Common.{◌≡◌, ℕ, ◌<◌, ◌⊎◌, inl, inr, List, subst}
+use Rattle.std.specs.Prelude.{Some, Result, Ok, IsErrOf}
 use Rattle.tile_model.specs.declared.Letter.{Letter}
 use Rattle.structure_check.specs.Rules.{TreeRules}
 use Rattle.turn_rules.specs.Spots.{TreeSpot}

@@ -18,7 +18,7 @@ use Rattle.reply_model.specs.declared.Command.{Command}
 use Rattle.reply_model.specs.declared.Command.TheVariants.{New, Go, At, Put, Get}
 use Rattle.reply_model.specs.declared.Reply.{Reply}
 use Rattle.reply_model.specs.declared.Reply.TheVariants.{Done, At as AtPlace, NoWalker, Deep, Long}
-use Rattle.reply_model.specs.Histories.{History, most_walkers}
+use Rattle.reply_model.specs.Histories.{most_walkers}
 use Rattle.lazy_map.specs.Texts.{Texts, text_under}
 use Rattle.reply_model.specs.Texts.{longest_text}
 use Rattle.session_core.specs.Sessions.{SessionState, walker_at, IsWalker, IsSession, IsKept, Stands}

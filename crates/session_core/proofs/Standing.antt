@@ -11,7 +11,6 @@ use Rattle.tile_model.specs.Walks.{type_of}
 use Rattle.tree_model.specs.Automata.{state_at}
 use Rattle.tree_model.specs.Names.{state_of}
 use Rattle.tree_model.specs.Positions.{Position, root, Leads}
-use Rattle.structure_check.specs.Rules.{AreSound}
 use Rattle.turn_rules.specs.Spots.{TreeSpot, position, tile_state}
 use Rattle.tree_laws.proofs.Walking.{leads_append, leads_same}
 use Rattle.reply_model.specs.declared.Command.{Command}
@@ -24,7 +23,7 @@ use Rattle.reply_model.specs.Readings.{Reading}
 use Rattle.reply_model.specs.Replies.{new_taken, new_made, go_nobody, go_deep, go_gone, at_nobody, at_place, same_nobody, same_tile, other_tile}
 use Rattle.reply_model.specs.Replies.{level_nobody, dist_nobody, path_nobody}
 use Rattle.reply_model.specs.Replies.{put_nobody, put_long, put_written, get_nobody, get_text, get_nothing}
-use Rattle.reply_model.specs.Texts.{longest_text, IsLastText, IsBlank}
+use Rattle.reply_model.specs.Texts.{longest_text}
 use Rattle.reply_model.specs.TreeReadings.{LeadsTo, LeadToOneName}
 use Rattle.reply_laws.specs.Laws.{SayTheSame}
 use Rattle.reply_laws.proofs.Alike.{EndsAreKnown, the_other_way, last_alike, blank_alike, read_again}
@@ -34,7 +33,7 @@ use Rattle.reply_laws.proofs.Histories.{unborn, due_push}
 use Rattle.tree_laws.proofs.Together.{walks_one_place, state_kinds}
 use Rattle.lazy_map.specs.Texts.{Texts, text_under}
 use Rattle.session_core.specs.Sessions.{SessionState, walker_at, IsWalker, IsSession, HasNumbers, IsKept, IsTileName, Stands}
-use Rattle.session_core.specs.Sessions.{session_over_walks, session_over_tree, StandsForWalks, StandsFor, IsDueOverTree, AreReadAlike}
+use Rattle.session_core.specs.Sessions.{session_over_walks, session_over_tree, StandsFor, IsDueOverTree, AreReadAlike}
 use Rattle.session_core.specs.Answered.{HasAnswered}
 use Rattle.session_core.proofs.Steps as steps
 use Rattle.session_core.proofs.Steps.{Does, HasGone, HasPut, with_walker, with_texts, told_text}
@@ -535,13 +534,13 @@ stands_again r t s known same h st = record {
 pub read_alike : (s : SessionState) → IsSession s → AreReadAlike s
 read_alike s is = record {
   stands = λ h. (
-      stands_again over_walks over_tree s known back h,
-      stands_again over_tree over_walks s known same h,
-    );
+    stands_again over_walks over_tree s known back h,
+    stands_again over_tree over_walks s known same h,
+  );
   due = λ h c x. (
-      read_again s.rules.kinds s.kind known back h,
-      read_again s.rules.kinds s.kind known same h,
-    );
+    read_again s.rules.kinds s.kind known back h,
+    read_again s.rules.kinds s.kind known same h,
+  );
 }
   where
     over_walks : Reading

@@ -10,7 +10,6 @@ use Rattle.std.proofs.lemmas.Map.Entries.{length-keys_of}
 use Rattle.std.proofs.lemmas.Map.Views.{Contains-keys_from_lookup, IsSome-lookup_from_Contains}
 use Rattle.std.proofs.lemmas.Slice.Eq.{slice_eq-Decides}
 use Rattle.tile_model.specs.declared.Letter.{Letter}
-use Rattle.tree_model.specs.Positions.{Position}
 use Rattle.lazy_map.specs.Texts.{text_under, HasNoDoubles}
 use Rattle.reply_model.specs.Histories.{History}
 use Rattle.reply_model.specs.Readings.{Reading}

@@ -1,4 +1,4 @@
-use Rattle.std.proofs.Common.{◌≡◌, ◌≤◌, length, sym, subst, arith}
+use Rattle.std.proofs.Common.{◌≤◌, length, sym, subst, arith}
 use Rattle.tree_model.specs.Limits.{deepest}
 use Rattle.reply_model.specs.declared.Command.TheVariants.{Level}
 use Rattle.reply_model.specs.declared.Reply.TheVariants.{NoWalker, Level as AtLevel}

@@ -1,4 +1,3 @@
-use Rattle.std.proofs.Common.{refl}
 use Rattle.session_core.proofs.Going.{empty_session, empty_stands}
 use Rattle.session_core.proofs.session.Session.new.Goals as goal
 

@@ -2,7 +2,7 @@ use Rattle.std.proofs.Common.{refl, sym, ap, ◌∙◌, subst, length, ◌≤◌
 use Rattle.std.specs.Prelude.{Err}
 use Rattle.reply_model.specs.Texts.{longest_text}
 use Rattle.reply_model.specs.declared.Reply.TheVariants.{Done, Long}
-use Rattle.session_core.proofs.Going.{held, seen, told, untold, nobody_puts, has_put, has_refused, texts_session, was_short, texts_stayed, puts_seen}
+use Rattle.session_core.proofs.Going.{held, seen, told, untold, nobody_puts, has_put, has_refused, was_short, texts_stayed, puts_seen}
 use Rattle.session_core.proofs.session.Session.put.Goals as goal
 use Rattle.session_core.proofs.session.Session.put.Goals.{in-Ok, in-Err-Long, in-Err-Memory}
 
