@@ -2,8 +2,6 @@
 #![tactic(auto)]
 
 mod name;
-#[cfg(test)]
-mod tests;
 mod text;
 
 pub use name::Name;

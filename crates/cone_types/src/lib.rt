@@ -11,6 +11,3 @@ pub use cone_type::{ConeType, Rule};
 pub use look::{ConeLook, SeenRule};
 pub use minimisation::{coarsest, renamed_rules};
 pub use partition::{Table, class_number, coarsest_partition};
-
-#[cfg(test)]
-mod tests;

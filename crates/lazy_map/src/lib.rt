@@ -2,8 +2,6 @@
 #![tactic(auto)]
 
 mod map;
-#[cfg(test)]
-mod tests;
 mod text;
 
 pub use map::{LONGEST_TEXT, LazyMap, PutFault};

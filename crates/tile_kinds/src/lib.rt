@@ -9,6 +9,3 @@ mod tessellation;
 pub use kinds::{DartType, Kind};
 pub use tessellation::Tessellation;
 pub use tile_model::KindFault;
-
-#[cfg(test)]
-mod tests;

@@ -7,6 +7,3 @@ mod walk;
 pub use text::{WalkFault, print_walk, read_walk};
 pub use tile_model::Letter;
 pub use walk::{Walk, type_of};
-
-#[cfg(test)]
-mod tests;

@@ -12,8 +12,6 @@ mod mem_sink;
 mod mem_source;
 mod sink;
 mod source;
-#[cfg(test)]
-mod tests;
 
 pub use files::{FetchFault, Files, StoreFault};
 pub use fill_source::FillSource;

@@ -9,6 +9,3 @@ mod shift;
 pub use fault::TieFault;
 pub use sets::{Found, WeightedSets};
 pub use shift::Shift;
-
-#[cfg(test)]
-mod tests;

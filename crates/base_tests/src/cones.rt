@@ -1,6 +1,6 @@
-// The cone types of pentagons, four at each corner, of which the regular automaton has three.
-use crate::Rule::{Child, Left, Parent, Right};
-use crate::{ConeType, Rule, coarsest};
+//! The cone types of pentagons, four at each corner, of which the regular automaton has three.
+use cone_types::Rule::{Child, Left, Parent, Right};
+use cone_types::{ConeType, Rule, coarsest};
 use std::alloc::{AllocError, Global};
 use std::test::Fail;
 

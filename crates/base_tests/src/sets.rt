@@ -1,6 +1,6 @@
-// Differences along a chain of elements, by hand.
-use crate::{Found, Shift, TieFault, WeightedSets};
+//! Differences along a chain of elements, by hand.
 use std::test::Fail;
+use weighted_sets::{Found, Shift, TieFault, WeightedSets};
 
 fn shift(place: i32, depth: i32) -> Shift {
     Shift { place, depth }

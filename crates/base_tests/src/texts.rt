@@ -1,6 +1,6 @@
 //! Texts that were put, compared with a plain list of names and texts.
-use crate::{LONGEST_TEXT, LazyMap, PutFault};
 use cell_names::{Name, read_name};
+use lazy_map::{LONGEST_TEXT, LazyMap, PutFault};
 use std::test::Fail;
 
 /// Puts a text into a map that has room for one more name, as every map in these tests has.

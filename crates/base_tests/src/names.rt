@@ -1,5 +1,5 @@
 //! Names and their texts, compared with values from outside.
-use crate::{Name, NameFault, print_name, read_name, write_name};
+use cell_names::{Name, NameFault, print_name, read_name, write_name};
 use std::collections::{BTreeMap, HashMap};
 use std::test::Fail;
 

@@ -1,33 +1,10 @@
-// Tessellations made, refused, walked and copied, with values reckoned by hand.
-use crate::{DartType, Kind, KindFault, Tessellation};
-use std::alloc::{AllocError, Global};
+//! Tessellations made, refused, walked and copied, with values reckoned by hand.
+use crate::samples::{heptagons_and, kind};
 use std::test::Fail;
-
-fn kind(
-    alloc: Global,
-    sides: u8,
-    repeat: u8,
-    partner: &[(u8, u8)],
-    valence: &[u8],
-) -> Result<Kind, AllocError> {
-    Ok(Kind {
-        sides,
-        repeat,
-        partner: Vec::from_slice(alloc, partner)?,
-        valence: Vec::from_slice(alloc, valence)?,
-    })
-}
+use tile_kinds::{DartType, KindFault, Tessellation};
 
 fn dart(kind: u8, residue: u8) -> DartType {
     DartType { kind, residue }
-}
-
-// Heptagons and hexagons, three tiles round each corner, with the hexagon given.
-fn heptagons_and(alloc: Global, hexagon: Kind) -> Result<Vec<Kind>, AllocError> {
-    let mut kinds = Vec::new(alloc);
-    kinds.push(kind(alloc, 7, 1, &[(1, 0)], &[3])?)?;
-    kinds.push(hexagon)?;
-    Ok(kinds)
 }
 
 #[test]

@@ -1,11 +1,11 @@
-// Each call once with ample memory, and failing calls in mid-stream.
-use crate::{
-    FetchFault, Files, FillSource, HostFiles, MemFiles, MemSink, MemSource, ReadFault, Sink,
-    Source, StdSink, StdSource, StoreFault, WriteFault, write_piece,
-};
+//! Each call once with ample memory, and failing calls in mid-stream.
 use std::io;
 use std::io::Cursor;
 use std::test::Fail;
+use way_io::{
+    FetchFault, Files, FillSource, HostFiles, MemFiles, MemSink, MemSource, ReadFault, Sink,
+    Source, StdSink, StdSource, StoreFault, WriteFault, write_piece,
+};
 
 #[test]
 fn a_source_goes_on_after_a_fault(rt: HostRuntime) -> Result<(), Fail> {

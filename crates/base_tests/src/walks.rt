@@ -1,8 +1,8 @@
-// Walks read, turned back, printed and followed, with values reckoned by hand.
-use crate::{Letter, Walk, WalkFault, print_walk, read_walk, type_of};
-use std::alloc::{AllocError, Global};
+//! Walks read, turned back, printed and followed, with values reckoned by hand.
+use crate::samples::{heptagons_and, kind};
 use std::test::Fail;
-use tile_kinds::{DartType, Kind, Tessellation};
+use tile_kinds::{DartType, Tessellation};
+use walk_words::{Letter, Walk, WalkFault, print_walk, read_walk, type_of};
 
 #[test]
 fn walks_there_and_back(rt: HostRuntime) -> Result<(), Fail> {
@@ -46,28 +46,11 @@ fn refuses_other_texts(rt: HostRuntime) -> Result<(), Fail> {
     Ok(())
 }
 
-// Heptagons and hexagons, three tiles round each corner.
-fn heptagons_and_hexagons(alloc: Global) -> Result<Vec<Kind>, AllocError> {
-    let mut kinds = Vec::new(alloc);
-    kinds.push(Kind {
-        sides: 7,
-        repeat: 1,
-        partner: Vec::from_slice(alloc, &[(1, 0)])?,
-        valence: Vec::from_slice(alloc, &[3])?,
-    })?;
-    kinds.push(Kind {
-        sides: 6,
-        repeat: 2,
-        partner: Vec::from_slice(alloc, &[(0, 0), (1, 1)])?,
-        valence: Vec::from_slice(alloc, &[3, 3])?,
-    })?;
-    Ok(kinds)
-}
-
 #[test]
 fn goes_round_the_corner(rt: HostRuntime) -> Result<(), Fail> {
     let alloc = rt.alloc();
-    let Ok(t) = Tessellation::make(heptagons_and_hexagons(alloc)?) else {
+    let hexagon = kind(alloc, 6, 2, &[(0, 0), (1, 1)], &[3, 3])?;
+    let Ok(t) = Tessellation::make(heptagons_and(alloc, hexagon)?) else {
         panic!(rt; "refused");
     };
     let start = DartType {
