@@ -25,8 +25,6 @@ mod questions;
 mod sides;
 mod splits;
 mod steps;
-#[cfg(test)]
-mod tests;
 
 pub use codes::Level;
 pub use comparing::{Comparison, Found};

@@ -26,6 +26,3 @@ pub use dart::TreeDart;
 pub use limits::Limits;
 pub use splitting::{Split, split_by_looks};
 pub use ways::way_of_look;
-
-#[cfg(test)]
-mod tests;

@@ -1,10 +1,10 @@
 //! Base automata that a plain Rust program found, each with the numbers of cone types that it was
 //! split into there, and the numbers of open corners.
-use crate::{Limits, Split, TreeDart, split_by_looks, way_of_look};
 use cone_types::{ConeType, Rule};
 use std::alloc::{AllocError, Global};
 use std::test::Fail;
 use tile_kinds::{Kind, Tessellation};
+use tree_looks::{Limits, Split, TreeDart, split_by_looks, way_of_look};
 
 const LIMITS: Limits = Limits {
     types: 20_000,
@@ -63,11 +63,17 @@ fn automaton(alloc: Global, rows: &[(u8, u8, &str)]) -> Result<Vec<ConeType>, Al
     Ok(types)
 }
 
-/// How many cone types there are, or else how many open corners are told.
-fn count(split: &Split) -> Result<usize, usize> {
-    match split {
-        Split::Types(types) => Ok(types.len()),
-        Split::Open(corners) => Err(corners.len()),
+/// How many cone types there are after a split, or else how many open corners are told.
+fn count(
+    alloc: Global,
+    tess: &Tessellation,
+    types: &[ConeType],
+    horizon: u32,
+    limits: Limits,
+) -> Result<Result<usize, usize>, AllocError> {
+    match &split_by_looks(alloc, tess, types, horizon, limits)? {
+        Split::Types(types) => Ok(Ok(types.len())),
+        Split::Open(corners) => Ok(Err(corners.len())),
     }
 }
 
@@ -135,8 +141,8 @@ fn heptagons_need_no_split(rt: HostRuntime) -> Result<(), Fail> {
     };
     let types = automaton(alloc, &OF_HEPTAGONS)?;
     for horizon in [0, 1, 2, 4, 8, 16, 32] {
-        let split = split_by_looks(alloc, &tess, &types, horizon, LIMITS)?;
-        assert_eq!(rt; count(&split), Ok(8), "{horizon}");
+        let counted = count(alloc, &tess, &types, horizon, LIMITS)?;
+        assert_eq!(rt; counted, Ok(8), "{horizon}");
     }
     Ok(())
 }
@@ -149,17 +155,17 @@ fn squares_are_split(rt: HostRuntime) -> Result<(), Fail> {
     };
     let types = automaton(alloc, &OF_SQUARES)?;
     for (horizon, want) in [(0, 21), (1, 23), (2, 23), (8, 23), (32, 23)] {
-        let split = split_by_looks(alloc, &tess, &types, horizon, LIMITS)?;
-        assert_eq!(rt; count(&split), Ok(want), "{horizon}");
+        let counted = count(alloc, &tess, &types, horizon, LIMITS)?;
+        assert_eq!(rt; counted, Ok(want), "{horizon}");
     }
     let few = Limits {
         types: 22,
         open: 40,
     };
-    let split = split_by_looks(alloc, &tess, &types, 0, few)?;
-    assert_eq!(rt; count(&split), Ok(21));
-    let split = split_by_looks(alloc, &tess, &types, 1, few)?;
-    assert_eq!(rt; count(&split), Err(0));
+    for (horizon, want) in [(0, Ok(21)), (1, Err(0))] {
+        let counted = count(alloc, &tess, &types, horizon, few)?;
+        assert_eq!(rt; counted, want, "{horizon}");
+    }
     Ok(())
 }
 
@@ -204,6 +210,21 @@ fn darts_of_looks(
     Ok(Some(darts))
 }
 
+/// How many open corners are told, and how many darts the looks at them come by in all; none where
+/// none are told, one of them closes or one of the darts is not there.
+fn told(
+    alloc: Global,
+    tess: &Tessellation,
+    types: &[ConeType],
+    horizon: u32,
+) -> Result<Option<(usize, usize)>, AllocError> {
+    let Split::Open(open) = split_by_looks(alloc, tess, types, horizon, LIMITS)? else {
+        return Ok(None);
+    };
+    let darts = darts_of_looks(alloc, tess, types, &open, horizon)?;
+    Ok(darts.map(|darts| (open.len(), darts)))
+}
+
 #[test]
 fn wrong_automata_have_open_corners(rt: HostRuntime) -> Result<(), Fail> {
     let alloc = rt.alloc();
@@ -212,12 +233,8 @@ fn wrong_automata_have_open_corners(rt: HostRuntime) -> Result<(), Fail> {
     };
     let types = automaton(alloc, &TOO_COARSE)?;
     for (horizon, corners, darts) in [(0, 9, 426), (1, 7, 330), (2, 16, 744), (4, 40, 1_748)] {
-        let split = split_by_looks(alloc, &tess, &types, horizon, LIMITS)?;
-        assert_eq!(rt; count(&split), Err(corners), "{horizon}");
-        if let Split::Open(open) = &split {
-            let told = darts_of_looks(alloc, &tess, &types, open, horizon)?;
-            assert_eq!(rt; told, Some(darts), "{horizon}");
-        }
+        let found = told(alloc, &tess, &types, horizon)?;
+        assert_eq!(rt; found, Some((corners, darts)), "{horizon}");
     }
     Ok(())
 }

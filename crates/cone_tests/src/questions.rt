@@ -1,7 +1,7 @@
 //! Triangles and heptagons, two of each at each corner. How many cone types there are at first, and
 //! once they are split, was found by another program.
-use crate::{AskFault, Comparison, Cones, Found, Level, Questions};
 use cell_patches::Patches;
+use cone_questions::{AskFault, Comparison, Cones, Found, Level, Questions};
 use std::alloc::{AllocError, Global};
 use std::test::Fail;
 use tile_kinds::{Kind, Tessellation};
@@ -92,61 +92,58 @@ fn follow(
     Ok(splits)
 }
 
+/// How many cone types there are before all open corners are followed, after that, and once they
+/// stay as they are again; none where nothing was split.
+fn counts(
+    alloc: Global,
+    t: &Tessellation,
+    goes_along: bool,
+) -> Result<Option<[usize; 3]>, AskFault> {
+    let Some(mut patches) = Patches::start(alloc, t, 1_000)? else {
+        return Ok(None);
+    };
+    let mut questions = Questions::new(alloc, Level::Near);
+    let Some(mut cones) = settled(&mut questions, &mut patches, t.kinds())? else {
+        return Ok(None);
+    };
+    let before = cones.types.len();
+    let splits = follow(
+        alloc,
+        t,
+        &mut questions,
+        &mut patches,
+        &mut cones,
+        goes_along,
+    )?;
+    let Some(last) = settled(&mut questions, &mut patches, t.kinds())? else {
+        return Ok(None);
+    };
+    if splits == 0 {
+        return Ok(None);
+    }
+    Ok(Some([before, cones.types.len(), last.types.len()]))
+}
+
 #[test]
 fn splits_cone_types_where_corners_are_open(rt: HostRuntime) -> Result<(), Fail> {
     let alloc = rt.alloc();
     let Ok(t) = Tessellation::make(kinds(alloc)?) else {
         panic!(rt; "refused");
     };
-    let Some(mut patches) = Patches::start(alloc, &t, 1_000)? else {
-        panic!(rt; "no cells");
-    };
-    let mut questions = Questions::new(alloc, Level::Near);
-    let Some(mut cones) = settled(&mut questions, &mut patches, t.kinds())? else {
-        panic!(rt; "not whole");
-    };
-    assert_eq!(rt; cones.types.len(), 6);
-    let splits = follow(alloc, &t, &mut questions, &mut patches, &mut cones, false)?;
-    assert!(rt; splits > 0);
-    assert_eq!(rt; cones.types.len(), 6);
-    let Some(cones) = settled(&mut questions, &mut patches, t.kinds())? else {
-        panic!(rt; "not whole");
-    };
-    assert_eq!(rt; cones.types.len(), 8);
+    assert_eq!(rt; counts(alloc, &t, false)?, Some([6, 6, 8]));
+    assert_eq!(rt; counts(alloc, &t, true)?, Some([6, 8, 8]));
     Ok(())
 }
 
-#[test]
-fn a_base_automaton_goes_along_with_splits(rt: HostRuntime) -> Result<(), Fail> {
-    let alloc = rt.alloc();
-    let Ok(t) = Tessellation::make(kinds(alloc)?) else {
-        panic!(rt; "refused");
-    };
-    let Some(mut patches) = Patches::start(alloc, &t, 1_000)? else {
-        panic!(rt; "no cells");
-    };
-    let mut questions = Questions::new(alloc, Level::Near);
-    let Some(mut cones) = settled(&mut questions, &mut patches, t.kinds())? else {
-        panic!(rt; "not whole");
-    };
-    let splits = follow(alloc, &t, &mut questions, &mut patches, &mut cones, true)?;
-    assert!(rt; splits > 0);
-    assert_eq!(rt; cones.types.len(), 8);
-    Ok(())
-}
-
-#[test]
-fn follows_a_child_of_the_root(rt: HostRuntime) -> Result<(), Fail> {
-    let alloc = rt.alloc();
-    let Ok(t) = Tessellation::make(kinds(alloc)?) else {
-        panic!(rt; "refused");
-    };
-    let Some(mut patches) = Patches::start(alloc, &t, 1_000)? else {
-        panic!(rt; "no cells");
+/// How far the tile across side 1 of the root is, and how many sides it has, where a comparison
+/// comes to it and finds nothing.
+fn child_of_the_root(alloc: Global, t: &Tessellation) -> Result<Option<(u32, u8)>, AskFault> {
+    let Some(mut patches) = Patches::start(alloc, t, 1_000)? else {
+        return Ok(None);
     };
     let mut questions = Questions::new(alloc, Level::Ring);
     let Some(cones) = settled(&mut questions, &mut patches, t.kinds())? else {
-        panic!(rt; "not whole");
+        return Ok(None);
     };
     let dart = TreeDart {
         root: 0,
@@ -155,14 +152,22 @@ fn follows_a_child_of_the_root(rt: HostRuntime) -> Result<(), Fail> {
     };
     let mut comparison = Comparison::new(alloc);
     comparison.begin_sweep(&cones);
-    assert_eq!(rt; comparison.cell(&dart)?, None);
-    let found = comparison.compare(&mut questions, &mut patches, &cones, &dart)?;
-    assert_eq!(rt; found, Found::Nothing);
-    let Some(cell) = comparison.cell(&dart)? else {
-        panic!(rt; "not come to");
+    if comparison.cell(&dart)?.is_some()
+        || comparison.compare(&mut questions, &mut patches, &cones, &dart)? != Found::Nothing
+    {
+        return Ok(None);
+    }
+    let cell = comparison.cell(&dart)?;
+    Ok(cell.map(|cell| (patches.distance(cell), patches.sides(cell))))
+}
+
+#[test]
+fn follows_a_child_of_the_root(rt: HostRuntime) -> Result<(), Fail> {
+    let alloc = rt.alloc();
+    let Ok(t) = Tessellation::make(kinds(alloc)?) else {
+        panic!(rt; "refused");
     };
-    assert_eq!(rt; patches.distance(cell), 1);
-    assert_eq!(rt; patches.sides(cell), 7);
+    assert_eq!(rt; child_of_the_root(alloc, &t)?, Some((1, 7)));
     Ok(())
 }
 
@@ -176,10 +181,8 @@ fn makes_no_more_cells_than_it_may(rt: HostRuntime) -> Result<(), Fail> {
         panic!(rt; "no cells");
     };
     let mut questions = Questions::new(alloc, Level::Near);
-    match questions.pass(&mut patches, t.kinds()) {
-        Err(fault) => assert_eq!(rt; fault, AskFault::Full),
-        Ok(_) => panic!(rt; "enough cells"),
-    }
+    let passed = questions.pass(&mut patches, t.kinds());
+    assert_eq!(rt; passed.err(), Some(AskFault::Full));
     assert_eq!(rt; patches.made(), 20);
     Ok(())
 }
