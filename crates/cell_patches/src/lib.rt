@@ -20,6 +20,3 @@ pub use dart::PatchDart;
 pub use patches::Patches;
 pub use settling::Settled;
 pub use sides::Sides;
-
-#[cfg(test)]
-mod tests;

@@ -10,6 +10,3 @@ mod table;
 
 pub use dart::Dart;
 pub use joins::Joins;
-
-#[cfg(test)]
-mod tests;

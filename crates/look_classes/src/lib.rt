@@ -18,6 +18,3 @@ pub use group::classes;
 pub use lists::Classes;
 pub use looks::Looks;
 pub use rule::SideRule;
-
-#[cfg(test)]
-mod tests;

@@ -7,6 +7,3 @@ mod radii;
 mod region;
 
 pub use region::{Grown, Region};
-
-#[cfg(test)]
-mod tests;

@@ -1,23 +1,12 @@
-// Classes in regions of regular tessellations.
-use crate::{Classes, Looks, SideRule, classes};
+//! Classes in regions of regular tessellations, and of heptagons and hexagons.
+use crate::samples::{regular, truncated};
+use look_classes::{Classes, Looks, SideRule, classes};
 use region_grower::{Grown, Region};
 use std::alloc::{AllocError, Global};
 use std::test::Fail;
-use tile_kinds::{Kind, Tessellation};
+use tile_kinds::Tessellation;
 
-// Tiles with p sides, q round each corner.
-fn regular(alloc: Global, p: u8, q: u8) -> Result<Vec<Kind>, AllocError> {
-    let mut kinds = Vec::new(alloc);
-    kinds.push(Kind {
-        sides: p,
-        repeat: 1,
-        partner: Vec::from_slice(alloc, &[(0, 0)])?,
-        valence: Vec::from_slice(alloc, &[q])?,
-    })?;
-    Ok(kinds)
-}
-
-// How many numbers there are.
+/// How many numbers there are.
 fn there(numbers: &[Option<u32>]) -> u64 {
     let mut count = 0u64;
     for number in numbers {
@@ -28,7 +17,7 @@ fn there(numbers: &[Option<u32>]) -> u64 {
     count
 }
 
-// Makes up to so many cells.
+/// Makes up to so many cells.
 fn grown(region: &mut Region<'_>, most: u32) -> Result<(), AllocError> {
     for _layer in 0..100 {
         if region.made() > most || most > 1_000_000 {
@@ -42,7 +31,7 @@ fn grown(region: &mut Region<'_>, most: u32) -> Result<(), AllocError> {
     Ok(())
 }
 
-// The classes in a region of so many cells of a regular tessellation, to a horizon.
+/// The classes in a region of so many cells of a regular tessellation, to a horizon.
 fn regular_classes(
     alloc: Global,
     p: u8,
@@ -99,51 +88,31 @@ fn no_number_where_a_look_leaves_the_finished_part(rt: HostRuntime) -> Result<()
     Ok(())
 }
 
+/// The rule of side 0 of the first cell of a region.
+fn first_rule(alloc: Global, region: &Region<'_>) -> Result<Option<SideRule>, AllocError> {
+    let looks = Looks::start(alloc, region)?;
+    if looks.region().joins().alive(0) {
+        return Ok(looks.rule(0, 0));
+    }
+    Ok(None)
+}
+
 #[test]
 fn the_first_cell_has_children_alone(rt: HostRuntime) -> Result<(), Fail> {
     let alloc = rt.alloc();
     let Ok(t) = Tessellation::make(regular(alloc, 7, 3)?) else {
-        return Ok(());
+        panic!(rt; "refused");
     };
-    if t.kinds() > 0 {
-        let mut region = Region::start(alloc, &t, 0)?;
-        grown(&mut region, 100)?;
-        let looks = Looks::start(alloc, &region)?;
-        if region.joins().alive(0) {
-            assert_eq!(rt; first_rule(&looks), Some(SideRule::Child));
-        }
+    if t.kinds() == 0 {
+        panic!(rt; "no kind");
     }
+    let mut region = Region::start(alloc, &t, 0)?;
+    grown(&mut region, 100)?;
+    assert_eq!(rt; first_rule(alloc, &region)?, Some(SideRule::Child));
     Ok(())
 }
 
-// The rule of side 0 of the first cell.
-fn first_rule(looks: &Looks<'_, '_>) -> Option<SideRule> {
-    let region = looks.region();
-    if region.joins().alive(0) {
-        return looks.rule(0, 0);
-    }
-    None
-}
-
-// Heptagons and hexagons, three round each corner.
-fn heptagons_and_hexagons(alloc: Global) -> Result<Vec<Kind>, AllocError> {
-    let mut kinds = Vec::new(alloc);
-    kinds.push(Kind {
-        sides: 7,
-        repeat: 1,
-        partner: Vec::from_slice(alloc, &[(1, 0)])?,
-        valence: Vec::from_slice(alloc, &[3])?,
-    })?;
-    kinds.push(Kind {
-        sides: 6,
-        repeat: 2,
-        partner: Vec::from_slice(alloc, &[(0, 0), (1, 1)])?,
-        valence: Vec::from_slice(alloc, &[3, 3])?,
-    })?;
-    Ok(kinds)
-}
-
-// The number of the layer that is finished with so many cells in all, if one is.
+/// The number of the layer that is finished with so many cells in all, if one is.
 fn next_layer(region: &mut Region<'_>, most: u32) -> Result<Option<u32>, AllocError> {
     if region.made() > most || most > 1_000_000 {
         return Ok(None);
@@ -157,7 +126,7 @@ fn next_layer(region: &mut Region<'_>, most: u32) -> Result<Option<u32>, AllocEr
 #[test]
 fn the_tiles_round_the_first_one_are_one_class(rt: HostRuntime) -> Result<(), Fail> {
     let alloc = rt.alloc();
-    let Ok(t) = Tessellation::make(heptagons_and_hexagons(alloc)?) else {
+    let Ok(t) = Tessellation::make(truncated(alloc, 3, 7)?) else {
         panic!(rt; "refused");
     };
     if t.kinds() == 0 {

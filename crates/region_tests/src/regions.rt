@@ -1,43 +1,12 @@
-// Regions of tessellations whose tiles are counted elsewhere.
-use crate::{Grown, Region};
+//! Regions of tessellations whose tiles are counted elsewhere.
+use crate::samples::{kind, regular, truncated};
+use region_grower::{Grown, Region};
 use std::alloc::{AllocError, Global};
 use std::test::Fail;
 use tile_kinds::{Kind, Tessellation};
 
-// A kind of tile.
-fn kind(
-    alloc: Global,
-    sides: u8,
-    repeat: u8,
-    partner: &[(u8, u8)],
-    valence: &[u8],
-) -> Result<Kind, AllocError> {
-    Ok(Kind {
-        sides,
-        repeat,
-        partner: Vec::from_slice(alloc, partner)?,
-        valence: Vec::from_slice(alloc, valence)?,
-    })
-}
-
-// Tiles with p sides, q round each corner.
-fn regular(alloc: Global, p: u8, q: u8) -> Result<Vec<Kind>, AllocError> {
-    let mut kinds = Vec::new(alloc);
-    kinds.push(kind(alloc, p, 1, &[(0, 0)], &[q])?)?;
-    Ok(kinds)
-}
-
-// The corners of a regular tessellation cut off: tiles with q sides and with twice p sides, three
-// round each corner.
-fn truncated(alloc: Global, p: u8, q: u8) -> Result<Vec<Kind>, AllocError> {
-    let mut kinds = Vec::new(alloc);
-    kinds.push(kind(alloc, q, 1, &[(1, 0)], &[3])?)?;
-    kinds.push(kind(alloc, 2 * (p % 32), 2, &[(0, 0), (1, 1)], &[3, 3])?)?;
-    Ok(kinds)
-}
-
-// Cut off as far as the middles of the sides: tiles with p and with q sides, four round each
-// corner.
+/// Cut off as far as the middles of the sides: tiles with p and with q sides, four round each
+/// corner.
 fn rectified(alloc: Global, p: u8, q: u8) -> Result<Vec<Kind>, AllocError> {
     let mut kinds = Vec::new(alloc);
     kinds.push(kind(alloc, p, 1, &[(1, 0)], &[4])?)?;
@@ -45,7 +14,7 @@ fn rectified(alloc: Global, p: u8, q: u8) -> Result<Vec<Kind>, AllocError> {
     Ok(kinds)
 }
 
-// Turned, with two triangles for each side: five tiles round each corner.
+/// Turned, with two triangles for each side: five tiles round each corner.
 fn snub(alloc: Global, p: u8, q: u8) -> Result<Vec<Kind>, AllocError> {
     let mut kinds = Vec::new(alloc);
     kinds.push(kind(alloc, p, 1, &[(2, 0)], &[5])?)?;
@@ -54,7 +23,7 @@ fn snub(alloc: Global, p: u8, q: u8) -> Result<Vec<Kind>, AllocError> {
     Ok(kinds)
 }
 
-// A ring of squares that must close after three and after four steps.
+/// A ring of squares that must close after three and after four steps.
 fn collapsing(alloc: Global) -> Result<Vec<Kind>, AllocError> {
     let mut kinds = Vec::new(alloc);
     kinds.push(kind(alloc, 3, 1, &[(1, 0)], &[3])?)?;
@@ -69,7 +38,7 @@ fn collapsing(alloc: Global) -> Result<Vec<Kind>, AllocError> {
     Ok(kinds)
 }
 
-// The number of tiles of a region, grown from kind 0 until it is closed; 0 where it does not close.
+/// The number of tiles of a region, grown from kind 0 until it is closed; 0 where it does not close.
 fn tiles(alloc: Global, kinds: Vec<Kind>) -> Result<u32, AllocError> {
     let Ok(t) = Tessellation::make(kinds) else {
         return Ok(0);
@@ -89,6 +58,16 @@ fn tiles(alloc: Global, kinds: Vec<Kind>) -> Result<u32, AllocError> {
     Ok(0)
 }
 
+/// The numbers of tiles of a regular tessellation, and of it truncated, rectified and snub.
+fn four_counts(alloc: Global, p: u8, q: u8) -> Result<[u32; 4], AllocError> {
+    Ok([
+        tiles(alloc, regular(alloc, p, q)?)?,
+        tiles(alloc, truncated(alloc, p, q)?)?,
+        tiles(alloc, rectified(alloc, p, q)?)?,
+        tiles(alloc, snub(alloc, p, q)?)?,
+    ])
+}
+
 #[test]
 fn closes_with_the_number_of_faces(rt: HostRuntime) -> Result<(), Fail> {
     let alloc = rt.alloc();
@@ -100,22 +79,8 @@ fn closes_with_the_number_of_faces(rt: HostRuntime) -> Result<(), Fail> {
         (5, 3, 20, 30, 12),
         (3, 5, 12, 30, 20),
     ] {
-        assert_eq!(rt; tiles(alloc, regular(alloc, p, q)?)?, f, "{p},{q}");
-        assert_eq!(rt;
-            tiles(alloc, truncated(alloc, p, q)?)?,
-            f + v,
-            "{p},{q} truncated"
-        );
-        assert_eq!(rt;
-            tiles(alloc, rectified(alloc, p, q)?)?,
-            f + v,
-            "{p},{q} rectified"
-        );
-        assert_eq!(rt;
-            tiles(alloc, snub(alloc, p, q)?)?,
-            f + v + 2 * e,
-            "{p},{q} snub"
-        );
+        let want = [f, f + v, f + v, f + v + 2 * e];
+        assert_eq!(rt; four_counts(alloc, p, q)?, want, "{p},{q}");
     }
     assert_eq!(rt; tiles(alloc, truncated(alloc, 2, 3)?)?, 5);
     assert_eq!(rt; tiles(alloc, collapsing(alloc)?)?, 3);
@@ -139,11 +104,9 @@ fn grows_by_layers(rt: HostRuntime) -> Result<(), Fail> {
         panic!(rt; "too many cells");
     }
     assert_eq!(rt; region.grow(8)?, Grown::Layer(1));
-    assert_eq!(rt; region.made(), 8);
-    assert_eq!(rt; region.live(), 8);
-    assert_eq!(rt; region.layers(), 1);
-    assert_eq!(rt; region.radius(7), Some(1));
-    assert_eq!(rt; region.radius(8), None);
+    let counts = (region.made(), region.live(), region.layers());
+    assert_eq!(rt; counts, (8, 8, 1));
+    assert_eq!(rt; (region.radius(7), region.radius(8)), (Some(1), None));
     Ok(())
 }
 
@@ -163,9 +126,9 @@ fn makes_no_square_twice(rt: HostRuntime) -> Result<(), Fail> {
         }
         assert_eq!(rt; region.grow(1_000)?, Grown::Layer(layer));
         // the squares of a grid that lie at most so many steps from one of them
-        assert_eq!(rt; region.made(), 2 * layer * (layer + 1) + 1);
-        assert_eq!(rt; region.live(), region.made());
-        assert_eq!(rt; region.radius(region.made() - 1), Some(layer));
+        let made = 2 * layer * (layer + 1) + 1;
+        assert_eq!(rt; (region.made(), region.live()), (made, made));
+        assert_eq!(rt; region.radius(made - 1), Some(layer));
     }
     Ok(())
 }
