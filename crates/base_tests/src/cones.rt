@@ -4,56 +4,73 @@ use cone_types::{ConeType, Rule, coarsest};
 use std::alloc::{AllocError, Global};
 use std::test::Fail;
 
-fn cone(alloc: Global, rules: &[Rule]) -> Result<ConeType, AllocError> {
-    Ok(ConeType {
-        kind: 0,
-        off: 0,
-        rules: Vec::from_slice(alloc, rules)?,
-    })
+/// Cone types of kind 0 with these rules.
+fn cones(alloc: Global, rows: &[&[Rule]]) -> Result<Vec<ConeType>, AllocError> {
+    let mut types = Vec::new(alloc);
+    for rules in rows {
+        types.push(ConeType {
+            kind: 0,
+            off: 0,
+            rules: Vec::from_slice(alloc, rules)?,
+        })?;
+    }
+    Ok(types)
 }
 
-fn is_cone(types: &[ConeType], number: usize, rules: &[Rule]) -> bool {
-    match types.get(number) {
-        Some(cone) => cone.kind == 0 && cone.off == 0 && cone.rules.as_slice() == rules,
-        None => false,
+fn is_cone(cone: &ConeType, rules: &[Rule]) -> bool {
+    cone.kind == 0 && cone.off == 0 && cone.rules.as_slice() == rules
+}
+
+/// Whether these are cone types of kind 0 with these rules.
+fn are_cones(types: &[ConeType], rows: &[&[Rule]]) -> bool {
+    for (cone, rules) in types.iter().zip(rows) {
+        if !is_cone(cone, rules) {
+            return false;
+        }
     }
+    types.len() == rows.len()
 }
 
 #[test]
 fn joins_equal_cone_types(rt: HostRuntime) -> Result<(), Fail> {
     let alloc = rt.alloc();
-    let mut types = Vec::new(alloc);
-    types.push(cone(alloc, &[Child(1), Child(3), Child(1), Child(3), Child(1)])?)?;
-    types.push(cone(alloc, &[Parent, Right, Child(1), Child(3), Child(2)])?)?;
-    types.push(cone(alloc, &[Parent, Right, Child(3), Child(4), Left])?)?;
-    types.push(cone(alloc, &[Parent, Right, Child(3), Child(3), Child(4)])?)?;
-    types.push(cone(alloc, &[Parent, Right, Child(1), Child(2), Left])?)?;
-    let coarse = coarsest(alloc, &types, 1)?;
-    assert_eq!(rt; coarse.len(), 3);
-    assert!(rt;
-        is_cone(
-            &coarse,
-            0,
-            &[Child(1), Child(1), Child(1), Child(1), Child(1)]
-        )
-    );
-    assert!(rt; is_cone(&coarse, 1, &[Parent, Right, Child(1), Child(1), Child(2)]));
-    assert!(rt; is_cone(&coarse, 2, &[Parent, Right, Child(1), Child(2), Left]));
+    let rows: [&[Rule]; 5] = [
+        &[Child(1), Child(3), Child(1), Child(3), Child(1)],
+        &[Parent, Right, Child(1), Child(3), Child(2)],
+        &[Parent, Right, Child(3), Child(4), Left],
+        &[Parent, Right, Child(3), Child(3), Child(4)],
+        &[Parent, Right, Child(1), Child(2), Left],
+    ];
+    let coarse = coarsest(alloc, &cones(alloc, &rows)?, 1)?;
+    let wanted: [&[Rule]; 3] = [
+        &[Child(1), Child(1), Child(1), Child(1), Child(1)],
+        &[Parent, Right, Child(1), Child(1), Child(2)],
+        &[Parent, Right, Child(1), Child(2), Left],
+    ];
+    assert!(rt; are_cones(&coarse, &wanted));
     Ok(())
 }
 
 #[test]
 fn keeps_roots_apart(rt: HostRuntime) -> Result<(), Fail> {
     let alloc = rt.alloc();
-    let mut types = Vec::new(alloc);
-    for _ in 0..4 {
-        types.push(cone(alloc, &[Left, Child(9), Right])?)?;
+    let row = [Left, Child(9), Right];
+    let types = cones(alloc, &[row.as_slice(); 4])?;
+    for (roots, classes) in [(2, 3), (0, 1)] {
+        let coarse = coarsest(alloc, &types, roots)?;
+        assert_eq!(rt; coarse.len(), classes, "{roots}");
+        assert!(rt; coarse.iter().all(|cone| is_cone(cone, &row)), "{roots}");
     }
-    let coarse = coarsest(alloc, &types, 2)?;
-    assert_eq!(rt; coarse.len(), 3);
-    assert!(rt; is_cone(&coarse, 2, &[Left, Child(9), Right]));
-    assert_eq!(rt; coarsest(alloc, &types, 0)?.len(), 1);
-    let copy = cone(alloc, &[Left, Parent])?.copy(alloc)?;
-    assert_eq!(rt; copy.rules.as_slice(), [Left, Parent].as_slice());
+    Ok(())
+}
+
+#[test]
+fn copies_a_cone_type(rt: HostRuntime) -> Result<(), Fail> {
+    let alloc = rt.alloc();
+    let types = cones(alloc, &[[Left, Parent].as_slice()])?;
+    let Some(cone) = types.first() else {
+        panic!(rt; "no cone type");
+    };
+    assert!(rt; is_cone(&cone.copy(alloc)?, &[Left, Parent]));
     Ok(())
 }

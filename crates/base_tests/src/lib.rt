@@ -8,6 +8,8 @@ mod kinds;
 #[cfg(test)]
 mod names;
 #[cfg(test)]
+mod numbers;
+#[cfg(test)]
 mod samples;
 #[cfg(test)]
 mod sets;

@@ -1,7 +1,15 @@
 //! Names and their texts, compared with values from outside.
 use cell_names::{Name, NameFault, print_name, read_name, write_name};
+use std::alloc::Global;
 use std::collections::{BTreeMap, HashMap};
 use std::test::Fail;
+
+/// Whether a text spells a name of these sides, and is what is printed for it.
+fn spells(alloc: Global, text: &str, sides: &[u8]) -> Result<bool, NameFault> {
+    let name = read_name(alloc, text.as_bytes())?;
+    let printed = print_name(alloc, &name)?;
+    Ok(name.sides() == sides && printed.as_slice() == text.as_bytes())
+}
 
 #[test]
 fn texts_are_read_and_printed(rt: HostRuntime) -> Result<(), Fail> {
@@ -14,14 +22,14 @@ fn texts_are_read_and_printed(rt: HostRuntime) -> Result<(), Fail> {
         ("0.0.0", &[0, 0, 0]),
     ];
     for (text, sides) in cases {
-        let name = read_name(alloc, text.as_bytes())?;
-        assert_eq!(rt; name.sides(), sides, "{text}");
-        assert_eq!(rt;
-            print_name(alloc, &name)?.as_slice(),
-            text.as_bytes(),
-            "{text}"
-        );
+        assert!(rt; spells(alloc, text, sides)?, "{text}");
     }
+    Ok(())
+}
+
+#[test]
+fn other_texts_are_refused(rt: HostRuntime) -> Result<(), Fail> {
+    let alloc = rt.alloc();
     for text in [
         "", "0.", "00", ".0", "0..4", "0.04", "64", "100", "-0", "-.0", "0.-", "--", "0 ", "+1",
     ] {
@@ -46,6 +54,11 @@ fn texts_are_appended(rt: HostRuntime) -> Result<(), Fail> {
     Ok(())
 }
 
+/// How many sides the name has that a text spells.
+fn depth(alloc: Global, text: &[u8]) -> Result<usize, NameFault> {
+    Ok(read_name(alloc, text)?.len())
+}
+
 #[test]
 fn names_of_more_than_4000_sides_are_too_deep(rt: HostRuntime) -> Result<(), Fail> {
     let alloc = rt.alloc();
@@ -53,17 +66,11 @@ fn names_of_more_than_4000_sides_are_too_deep(rt: HostRuntime) -> Result<(), Fai
     for _ in 1..4_000 {
         text.extend_from_slice(b".0")?;
     }
-    assert_eq!(rt; read_name(alloc, text.as_slice())?.len(), 4_000);
+    assert_eq!(rt; depth(alloc, text.as_slice()), Ok(4_000));
     text.extend_from_slice(b".0")?;
-    assert_eq!(rt;
-        read_name(alloc, text.as_slice()).err(),
-        Some(NameFault::Deep)
-    );
+    assert_eq!(rt; depth(alloc, text.as_slice()), Err(NameFault::Deep));
     text.push(b'.')?;
-    assert_eq!(rt;
-        read_name(alloc, text.as_slice()).err(),
-        Some(NameFault::Text)
-    );
+    assert_eq!(rt; depth(alloc, text.as_slice()), Err(NameFault::Text));
     Ok(())
 }
 
@@ -81,35 +88,45 @@ fn sides_come_and_go(rt: HostRuntime) -> Result<(), Fail> {
     assert_eq!(rt; name.sides(), [0, 4].as_slice());
     assert_eq!(rt; name.pop(), Some(4));
     assert_eq!(rt; name.len(), 1);
+    Ok(())
+}
 
-    // More sides than are kept without an allocation.
+#[test]
+fn more_sides_come_than_are_kept_without_an_allocation(rt: HostRuntime) -> Result<(), Fail> {
+    let mut name = Name::root(rt.alloc());
     for side in 0..40 {
         name.push(side)?;
     }
-    assert_eq!(rt; name.len(), 41);
+    assert_eq!(rt; name.len(), 40);
     assert_eq!(rt; name.pop(), Some(39));
+    Ok(())
+}
+
+#[test]
+fn names_are_ordered(rt: HostRuntime) -> Result<(), Fail> {
+    let alloc = rt.alloc();
+    let mut ordered = BTreeMap::new(alloc);
+    for text in ["1", "0.4", "-", "0", "10", "0.4.2", "0.10"] {
+        ordered.insert(read_name(alloc, text.as_bytes())?, text)?;
+    }
+    let mut wanted = ["-", "0", "0.4", "0.4.2", "0.10", "1", "10"].iter();
+    for text in ordered.values() {
+        assert_eq!(rt; Some(text), wanted.next());
+    }
+    assert_eq!(rt; wanted.next(), None);
     Ok(())
 }
 
 #[test]
 fn names_are_keys(rt: HostRuntime) -> Result<(), Fail> {
     let alloc = rt.alloc();
-    let mut ordered = BTreeMap::new(alloc);
     let mut hashed = HashMap::new(alloc);
     for text in ["1", "0.4", "-", "0", "10", "0.4.2", "0.10"] {
+        hashed.insert(read_name(alloc, text.as_bytes())?, text)?;
+    }
+    for text in ["0.4", "-", "0.10"] {
         let name = read_name(alloc, text.as_bytes())?;
-        hashed.insert(name.copy(alloc)?, text)?;
-        ordered.insert(name, text)?;
+        assert_eq!(rt; hashed.get(&name).copied(), Some(text));
     }
-    let mut texts = Vec::new(alloc);
-    for text in ordered.values() {
-        texts.push(*text)?;
-    }
-    assert_eq!(rt;
-        texts.as_slice(),
-        ["-", "0", "0.4", "0.4.2", "0.10", "1", "10"].as_slice()
-    );
-    let name = read_name(alloc, b"0.4")?;
-    assert_eq!(rt; hashed.get(&name).copied(), Some("0.4"));
     Ok(())
 }

@@ -9,9 +9,13 @@ fn shift(place: i32, depth: i32) -> Shift {
 #[test]
 fn adds_differences(rt: HostRuntime) -> Result<(), Fail> {
     let mut sets = WeightedSets::alone(rt.alloc(), 6)?;
-    assert_eq!(rt; sets.tie(4, 3, shift(1, 1)), Ok(true));
-    assert_eq!(rt; sets.tie(2, 4, shift(2, -1)), Ok(true));
-    assert_eq!(rt; sets.tie(5, 2, shift(-4, 7)), Ok(true));
+    for (a, b, over) in [
+        (4, 3, shift(1, 1)),
+        (2, 4, shift(2, -1)),
+        (5, 2, shift(-4, 7)),
+    ] {
+        assert_eq!(rt; sets.tie(a, b, over), Ok(true));
+    }
     assert_eq!(rt; sets.count(), 3);
     let found = Found {
         root: 2,
@@ -38,6 +42,11 @@ fn refuses_what_is_out_of_range(rt: HostRuntime) -> Result<(), Fail> {
     assert_eq!(rt; sets.tie(0, 1, shift(i32::MAX, 0)), Ok(true));
     assert_eq!(rt; sets.tie(1, 2, shift(1, 0)), Err(TieFault::Overflow));
     assert_eq!(rt; sets.count(), 2);
+    Ok(())
+}
+
+#[test]
+fn shifts_are_added(rt: HostRuntime) -> Result<(), Fail> {
     assert_eq!(rt; shift(1, 2).plus(shift(3, -4)), Some(shift(4, -2)));
     assert_eq!(rt; shift(1, 2).minus(shift(3, -4)), Some(shift(-2, 6)));
     Ok(())

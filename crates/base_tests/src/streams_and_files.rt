@@ -1,4 +1,5 @@
 //! Each call once with ample memory, and failing calls in mid-stream.
+use std::alloc::Global;
 use std::io;
 use std::io::Cursor;
 use std::test::Fail;
@@ -7,6 +8,21 @@ use way_io::{
     Source, StdSink, StdSource, StoreFault, WriteFault, write_piece,
 };
 
+/// Whether reads into so many bytes, at most 6, give these texts; None is a read that fails.
+fn gives_texts<S: Source>(source: &mut S, wanted: &[(usize, Option<&str>)]) -> bool {
+    for (most, text) in wanted {
+        let mut buf = [0u8; 6];
+        let Some(room) = buf.get_mut(..*most) else {
+            return false;
+        };
+        let count = source.read(room).ok();
+        if count.and_then(|count| buf.get(..count)) != text.map(|text| text.as_bytes()) {
+            return false;
+        }
+    }
+    true
+}
+
 #[test]
 fn a_source_goes_on_after_a_fault(rt: HostRuntime) -> Result<(), Fail> {
     let mut source = MemSource::new(rt.alloc(), b"new 0\ngo 0", 4, &[2])?;
@@ -14,35 +30,31 @@ fn a_source_goes_on_after_a_fault(rt: HostRuntime) -> Result<(), Fail> {
     assert_eq!(rt; source.read(&mut buf), Ok(4));
     assert_eq!(rt; buf.as_slice(), b"new \0\0".as_slice());
     assert_eq!(rt; source.read(&mut buf), Err(ReadFault));
-    assert_eq!(rt; source.read(&mut buf[..3]), Ok(3));
-    assert_eq!(rt; &buf[..3], b"0\ng".as_slice());
-    assert_eq!(rt; source.read(&mut buf), Ok(3));
-    assert_eq!(rt; &buf[..3], b"o 0".as_slice());
-    assert_eq!(rt; source.read(&mut buf), Ok(0));
+    let wanted = [(3, Some("0\ng")), (6, Some("o 0")), (6, Some(""))];
+    assert!(rt; gives_texts(&mut source, &wanted));
     Ok(())
 }
 
 #[test]
-fn a_fill_gives_its_count(rt: HostRuntime) -> Result<(), Fail> {
-    let mut source = FillSource::new(b'x', 5);
-    let mut buf = [0u8; 3];
-    assert_eq!(rt; source.read(&mut buf), Ok(3));
-    assert_eq!(rt; buf.as_slice(), b"xxx".as_slice());
-    assert_eq!(rt; source.read(&mut buf), Ok(2));
-    assert_eq!(rt; source.read(&mut buf), Ok(0));
+fn sources_give_their_count(rt: HostRuntime) -> Result<(), Fail> {
+    let wanted = [(3, Some("xxx")), (3, Some("xx")), (3, Some(""))];
+    assert!(rt; gives_texts(&mut FillSource::new(b'x', 5), &wanted));
+    let wanted = [(3, Some("new")), (3, Some(" 0")), (3, Some(""))];
+    let mut source = StdSource::new(Cursor::new(*b"new 0"));
+    assert!(rt; gives_texts(&mut source, &wanted));
     Ok(())
 }
 
 #[test]
 fn a_sink_takes_a_prefix(rt: HostRuntime) -> Result<(), Fail> {
     let mut sink = MemSink::new(rt.alloc(), 12, 4, &[3])?;
-    assert_eq!(rt;
-        write_piece(&mut sink, b"count 1\ncount 7\n"),
-        Err(WriteFault)
-    );
-    assert_eq!(rt; sink.taken(), b"count 1\n".as_slice());
-    assert_eq!(rt; write_piece(&mut sink, b"ok\n"), Ok(()));
-    assert_eq!(rt; sink.taken(), b"count 1\nok\n".as_slice());
+    for (piece, want, taken) in [
+        ("count 1\ncount 7\n", Err(WriteFault), "count 1\n"),
+        ("ok\n", Ok(()), "count 1\nok\n"),
+    ] {
+        assert_eq!(rt; write_piece(&mut sink, piece.as_bytes()), want);
+        assert_eq!(rt; sink.taken(), taken.as_bytes());
+    }
     assert_eq!(rt; sink.write(b"no"), Ok(1));
     assert_eq!(rt; sink.write(b"o"), Err(WriteFault));
     assert_eq!(rt; sink.taken(), b"count 1\nok\nn".as_slice());
@@ -56,34 +68,45 @@ fn holds(files: &MemFiles, name: &str, want: &[u8]) -> bool {
     }
 }
 
+/// Whether a fetch of a file of at most so many bytes answers so.
+fn answers<F: Files>(
+    files: &mut F,
+    alloc: Global,
+    name: &str,
+    limit: u32,
+    want: Result<&str, FetchFault>,
+) -> bool {
+    match &files.fetch(alloc, name, limit) {
+        Ok(bytes) => want.map(|text| text.as_bytes()) == Ok(bytes.as_slice()),
+        Err(fault) => want.err() == Some(*fault),
+    }
+}
+
 #[test]
 fn files_go_on_after_faults(rt: HostRuntime) -> Result<(), Fail> {
     let alloc = rt.alloc();
     let mut files = MemFiles::new(alloc, &[2, 4])?;
     files.add("hr.tess", b"tess 1\n")?;
-    assert!(rt; holds(&files, "hr.tess", b"tess 1\n"));
-    assert!(rt; files.content("hr").is_none());
-    assert_eq!(rt; files.store("x.json", b"{}"), Ok(()));
-    assert_eq!(rt; files.store("x.json", b"[]"), Err(StoreFault::Failed));
-    assert!(rt; holds(&files, "x.json", b"{}"));
-    assert_eq!(rt; files.store("x.json", b"[]"), Ok(()));
-    assert_eq!(rt;
-        files.fetch(alloc, "x.json", 2).err(),
-        Some(FetchFault::Failed)
-    );
-    let fetched = files.fetch(alloc, "x.json", 2);
-    assert_eq!(rt;
-        fetched.as_ref().map(|bytes| bytes.as_slice()),
-        Ok(b"[]".as_slice())
-    );
-    assert_eq!(rt;
-        files.fetch(alloc, "x.json", 1).err(),
-        Some(FetchFault::TooLong)
-    );
-    assert_eq!(rt;
-        files.fetch(alloc, "y.json", 9).err(),
-        Some(FetchFault::Failed)
-    );
+    assert!(rt; holds(&files, "hr.tess", b"tess 1\n") && files.content("hr").is_none());
+    for (text, want, held) in [
+        ("{}", Ok(()), "{}"),
+        ("[]", Err(StoreFault::Failed), "{}"),
+        ("[]", Ok(()), "[]"),
+    ] {
+        assert_eq!(rt; files.store("x.json", text.as_bytes()), want);
+        assert!(rt; holds(&files, "x.json", held.as_bytes()));
+    }
+    for (name, limit, want) in [
+        ("x.json", 2, Err(FetchFault::Failed)),
+        ("x.json", 2, Ok("[]")),
+        ("x.json", 1, Err(FetchFault::TooLong)),
+        ("y.json", 9, Err(FetchFault::Failed)),
+    ] {
+        assert!(rt;
+            answers(&mut files, alloc, name, limit, want),
+            "{name} {limit}"
+        );
+    }
     Ok(())
 }
 
@@ -92,46 +115,25 @@ fn the_machine_keeps_a_file(rt: HostRuntime) -> Result<(), Fail> {
     let alloc = rt.alloc();
     let mut files = HostFiles::new(&rt);
     assert_eq!(rt; files.store("way_io.kept", b"tess 1\n"), Ok(()));
-    let fetched = files.fetch(alloc, "way_io.kept", 7);
-    assert_eq!(rt;
-        fetched.as_ref().map(|bytes| bytes.as_slice()),
-        Ok(b"tess 1\n".as_slice())
-    );
-    assert_eq!(rt;
-        files.fetch(alloc, "way_io.kept", 6).err(),
-        Some(FetchFault::TooLong)
-    );
-    assert_eq!(rt;
-        files.fetch(alloc, "way_io.none", 7).err(),
-        Some(FetchFault::Failed)
-    );
-    assert_eq!(rt;
-        files.store("way_io.none/way_io.kept", b"tess 1\n"),
-        Err(StoreFault::Failed)
-    );
-    Ok(())
-}
-
-#[test]
-fn standard_input_is_read_to_its_end(rt: HostRuntime) -> Result<(), Fail> {
-    let mut source = StdSource::new(Cursor::new(*b"new 0"));
-    let mut buf = [0u8; 3];
-    assert_eq!(rt; source.read(&mut buf), Ok(3));
-    assert_eq!(rt; buf.as_slice(), b"new".as_slice());
-    assert_eq!(rt; source.read(&mut buf), Ok(2));
-    assert_eq!(rt; &buf[..2], b" 0".as_slice());
-    assert_eq!(rt; source.read(&mut buf), Ok(0));
+    for (name, limit, want) in [
+        ("way_io.kept", 7, Ok("tess 1\n")),
+        ("way_io.kept", 6, Err(FetchFault::TooLong)),
+        ("way_io.none", 7, Err(FetchFault::Failed)),
+    ] {
+        assert!(rt;
+            answers(&mut files, alloc, name, limit, want),
+            "{name} {limit}"
+        );
+    }
+    let stored = files.store("way_io.none/way_io.kept", b"tess 1\n");
+    assert_eq!(rt; stored, Err(StoreFault::Failed));
     Ok(())
 }
 
 #[test]
 fn standard_output_is_reached(rt: HostRuntime) -> Result<(), Fail> {
-    assert_eq!(rt;
-        write_piece(
-            &mut StdSink::new(io::writer(&rt)),
-            b"standard output is reached\n"
-        ),
-        Ok(())
-    );
+    let mut sink = StdSink::new(io::writer(&rt));
+    let written = write_piece(&mut sink, b"standard output is reached\n");
+    assert_eq!(rt; written, Ok(()));
     Ok(())
 }

@@ -1,6 +1,7 @@
 //! Texts that were put, compared with a plain list of names and texts.
 use cell_names::{Name, read_name};
 use lazy_map::{LONGEST_TEXT, LazyMap, PutFault};
+use std::alloc::{AllocError, Global};
 use std::test::Fail;
 
 /// Puts a text into a map that has room for one more name, as every map in these tests has.
@@ -65,23 +66,42 @@ fn the_last_text_of_each_name_stands(rt: HostRuntime) -> Result<(), Fail> {
     Ok(())
 }
 
+/// Whether a text is put under the only name of a map, and stays there when a longer one is refused.
+fn is_kept(map: &mut LazyMap, name: &Name, text: &[u8]) -> bool {
+    put(map, name, text) == Ok(())
+        && put(map, name, &[b'b'; 65]) == Err(PutFault::Long)
+        && map.get(name) == Some(text)
+        && map.len() == 1
+}
+
 #[test]
 fn texts_have_at_most_64_bytes(rt: HostRuntime) -> Result<(), Fail> {
     let alloc = rt.alloc();
     let name = read_name(alloc, b"3.1.4")?;
-    let bytes = [b'b'; 65];
     let mut map = LazyMap::new(alloc)?;
-    assert_eq!(rt; put(&mut map, &name, &bytes), Err(PutFault::Long));
-    assert_eq!(rt; map.get(&name), None);
-    assert_eq!(rt; map.len(), 0);
-
-    for len in [64, 0, 17, 16] {
-        put(&mut map, &name, &bytes[..len])?;
-        assert_eq!(rt; put(&mut map, &name, &bytes), Err(PutFault::Long));
-        assert_eq!(rt; map.get(&name), Some(&bytes[..len]), "{len}");
-        assert_eq!(rt; map.len(), 1);
+    assert_eq!(rt; put(&mut map, &name, &[b'b'; 65]), Err(PutFault::Long));
+    assert_eq!(rt; (map.get(&name), map.len()), (None, 0));
+    assert!(rt; is_kept(&mut map, &name, &[b'b'; 64]));
+    for text in ["", "seventeen bytes..", "sixteen bytes..."] {
+        assert!(rt; is_kept(&mut map, &name, text.as_bytes()), "{text}");
     }
     assert_eq!(rt; LONGEST_TEXT, 64);
+    Ok(())
+}
+
+/// The name of two sides below 64.
+fn two_sides(alloc: Global, first: u8, second: u8) -> Result<Name, AllocError> {
+    let mut name = Name::root(alloc);
+    name.push(first % 64)?;
+    name.push(second % 64)?;
+    Ok(name)
+}
+
+/// Puts texts under 64 names with the same first side: the two sides of each.
+fn put_row(alloc: Global, map: &mut LazyMap, first: u8) -> Result<(), PutFault> {
+    for second in 0..64 {
+        put(map, &two_sides(alloc, first, second)?, &[first, second])?;
+    }
     Ok(())
 }
 
@@ -90,18 +110,11 @@ fn many_names_keep_their_texts(rt: HostRuntime) -> Result<(), Fail> {
     let alloc = rt.alloc();
     let mut map = LazyMap::new(alloc)?;
     for first in 0..64 {
-        for second in 0..64 {
-            let mut name = Name::root(alloc);
-            name.push(first)?;
-            name.push(second)?;
-            put(&mut map, &name, &[first, second])?;
-        }
+        put_row(alloc, &mut map, first)?;
     }
     assert_eq!(rt; map.len(), 4_096);
     for (first, second) in [(0, 0), (0, 63), (63, 0), (31, 32), (63, 63)] {
-        let mut name = Name::root(alloc);
-        name.push(first)?;
-        name.push(second)?;
+        let name = two_sides(alloc, first, second)?;
         assert_eq!(rt; map.get(&name), Some([first, second].as_slice()));
     }
     Ok(())
