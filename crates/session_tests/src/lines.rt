@@ -1,9 +1,10 @@
 // Lines read and printed, compared with values from outside.
 use cell_names::read_name;
 use command_text::{
-    Bytes, Command, LONGEST_LINE, LineFault, Reply, bad_line, cut_at, laws, read_line,
-    too_long_line, write_reply,
+    Bytes, Command, CommandFault, LONGEST_LINE, LineFault, Reply, bad_line, cut_at, laws,
+    print_reply, read_command, read_line, too_long_line, write_reply,
 };
+use std::alloc::{AllocError, Global};
 use std::test::Fail;
 use walk_words::{Walk, read_walk};
 
@@ -123,16 +124,27 @@ fn texts_are_all_that_stands_behind_one_space(rt: HostRuntime) -> Result<(), Fai
     Ok(())
 }
 
+// A line that tells a walker to go by so many letters, all the same.
+fn go_line(alloc: Global, letter: u8, count: usize) -> Result<Vec<u8>, AllocError> {
+    let mut line = Vec::from_slice(alloc, b"go 0 ")?;
+    for _ in 0..count {
+        line.push(letter)?;
+    }
+    Ok(line)
+}
+
 #[test]
 fn lines_of_over_8192_bytes_are_too_long(rt: HostRuntime) -> Result<(), Fail> {
     let alloc = rt.alloc();
-    let mut line = Vec::from_slice(alloc, b"go 0 ")?;
-    for _ in line.len()..LONGEST_LINE {
-        line.push(b'Y')?;
-    }
-    assert_eq!(rt; read_line(alloc, &line).err(), Some(LineFault::Bad));
-    line.push(b'Y')?;
-    assert_eq!(rt; read_line(alloc, &line).err(), Some(LineFault::TooLong));
+    let longest = go_line(alloc, b'Y', LONGEST_LINE - 5)?;
+    assert_eq!(rt; read_line(alloc, &longest).err(), Some(LineFault::Bad));
+    let longer = go_line(alloc, b'Y', LONGEST_LINE - 4)?;
+    assert_eq!(rt; read_line(alloc, &longer).err(), Some(LineFault::TooLong));
+    // Where nothing is measured, lines of any length are read.
+    assert_eq!(rt; read_command(alloc, &longer).err(), Some(CommandFault::Bad));
+    let good = go_line(alloc, b'X', LONGEST_LINE)?;
+    assert!(rt; read_command(alloc, &good).is_ok());
+    assert_eq!(rt; read_line(alloc, &good).err(), Some(LineFault::TooLong));
     Ok(())
 }
 
@@ -186,6 +198,7 @@ fn replies_are_lines(rt: HostRuntime) -> Result<(), Fail> {
         let mut text = Vec::new(alloc);
         write_reply(&mut text, &reply)?;
         assert_eq!(rt; text.as_slice(), want.as_bytes());
+        assert_eq!(rt; print_reply(alloc, &reply)?.as_slice(), want.as_bytes());
     }
     assert_eq!(rt; too_long_line(), b"too long\n".as_slice());
     assert_eq!(rt; bad_line(), b"bad\n".as_slice());

@@ -205,6 +205,26 @@ fn walkers_answer(rt: HostRuntime) -> Result<(), Fail> {
     Ok(())
 }
 
+// Two texts on one tile are one tile with a text, and so is an empty text.
+#[test]
+fn tiles_with_a_text_are_counted(rt: HostRuntime) -> Result<(), Fail> {
+    let alloc = rt.alloc();
+    let Some(rules) = pentagons(alloc) else {
+        panic!(rt; "no rules");
+    };
+    let mut session = Session::new(alloc, &rules, 0)?;
+    answer(&mut session, &Command::New(0))?;
+    assert_eq!(rt; session.written(), 0);
+    answer(&mut session, &Command::Put(0, Bytes::copy_of(alloc, b"red")?))?;
+    answer(&mut session, &Command::Put(0, Bytes::copy_of(alloc, b"blue")?))?;
+    assert_eq!(rt; session.written(), 1);
+    answer(&mut session, &Command::Go(0, walk(alloc, &[X])?))?;
+    answer(&mut session, &Command::Put(0, Bytes::copy_of(alloc, b"")?))?;
+    assert_eq!(rt; session.written(), 2);
+    laws::readings(&session);
+    Ok(())
+}
+
 // A turn, by one or two sides to the left or to the right, and a crossing.
 fn step(walk: &mut Walk, digit: u8) -> Result<(), AllocError> {
     match digit {
