@@ -1,5 +1,5 @@
 -- One line, answered by a session.
-use Rattle.std.proofs.Common.{◌≡◌, ◌≢◌, ◌↔◌, ◌⊎◌, inl, inr, ℕ, ◌<◌, ◌≤◌, Bool, true, false, IsTrue, List, [], ◌∷◌, ◌++◌, length, refl, sym, ◌∙◌, subst, arith}
+use Rattle.std.proofs.Common.{◌≡◌, ◌↔◌, ◌⊎◌, inl, inr, ℕ, ◌<◌, ◌≤◌, Bool, true, false, IsTrue, List, [], ◌∷◌, ◌++◌, length, refl, sym, ◌∙◌, subst, arith}
 use Rattle.std.proofs.lemmas.Bool.{false≢true, cases_lt}
 use Rattle.std.proofs.lemmas.List.{length-append, append-nil}
 use Rattle.std.specs.Prelude.{Option, Result, Ok, Err, OnOk, OnErr}
@@ -8,7 +8,7 @@ use Rattle.reply_model.specs.declared.Command.{Command}
 use Rattle.reply_model.specs.declared.Command.TheVariants.{New, Go, At, Same, Level, Dist, Path}
 use Rattle.reply_model.specs.declared.Command.TheVariants.{Put, Get, Ring, Count}
 use Rattle.reply_model.specs.declared.Reply.{Reply}
-use Rattle.command_text.specs.CommandLines.{IsSpelling, SpellsNothing, most_of_line}
+use Rattle.command_text.specs.CommandLines.{IsSpelling, most_of_line}
 use Rattle.command_text.specs.CommandLines.{Operands, one_walker, two_walkers, walker_and_walk, walker_and_text, one_distance}
 use Rattle.command_text.specs.CommandLines.{AreTold, by_number, by_numbers, by_number_and_letters, by_number_and_text, by_distance}
 use Rattle.command_text.specs.Replies.{reply_text}
@@ -16,7 +16,7 @@ use Rattle.session_core.specs.Sessions.{SessionState, HasNumbers, AreReadAlike}
 use Rattle.session_core.specs.Answered.{HasAnswered}
 use Rattle.reply_model.specs.Histories.{History, most_walkers}
 use Rattle.line_server.specs.Answering.{AreBehind, name_lines}
-use Rattle.line_server.specs.Outputs.{IsAnswered, too_long, empty, bad, replied, too_long_text, bad_text}
+use Rattle.line_server.specs.Outputs.{IsAnswered, replied}
 use Rattle.line_server.specs.Outboxes.{HasSaid, HasBroken}
 use Rattle.line_server.specs.Sessions.{answering_of, AnswersLine}
 use Rattle.line_server.specs.Readers.{AreDropped, IsTextBehind, IsMeasured, HasAnsweredLine, names_of, HasReplied, HasFailed, nothing, partly}
@@ -90,16 +90,6 @@ answers_so s line text waiting front waiting' told e = record {
       (λ h. subst (λ l. IsAnswered (answering_of s) h line text l h) (sym (append-nil front)) (told h));
 }
 
-pub is_too_long :
-    (s : SessionState) (line text : List ℕ) → most_of_line < length line → (h : History)
-    → IsAnswered (answering_of s) h line text too_long_text h
-is_too_long s line text long h = too_long long
-
-pub is_bad :
-    (s : SessionState) (line text : List ℕ) → length line ≤ most_of_line → text ≢ []
-    → SpellsNothing text → (h : History) → IsAnswered (answering_of s) h line text bad_text h
-is_bad s line text short some unspelt h = bad short some unspelt
-
 -- the session answered a command, and the line of its reply waits
 pub answers_command :
     (old new : SessionState) (line text waiting waiting' : List ℕ) (c : Command) (x : Reply)
@@ -115,8 +105,7 @@ answers_command old new line text waiting waiting' c x names short spelt was is 
     stands = λ h here.
         let before = (was.stands h).0 here in
         let due = (was.due h c x).1 (answered.due h before) in
-        let said = text_said old new answered.rules answered.kind h c behind due in
-        (
+        let said = text_said old new answered.rules answered.kind h c behind due in (
           h ++ (c, x) ∷ [],
           replied short c x (reply_text x ++ name_lines names) spelt due said,
           (is.stands (h ++ (c, x) ∷ [])).1 (answered.stands h before),

@@ -2,7 +2,7 @@
 use Rattle.std.proofs.Common.{◌≡◌, ℕ, List, [], ◌∷◌, ◌++◌, refl, sym, ap, ◌∙◌, subst}
 use Rattle.std.proofs.lemmas.List.{append_assoc, append-nil}
 use Rattle.structure_check.specs.Rules.{TreeRules}
-use Rattle.session_core.specs.Sessions.{SessionState, StandsForWalks}
+use Rattle.session_core.specs.Sessions.{SessionState}
 use Rattle.line_server.specs.Lines.{feed, ended, text_of}
 use Rattle.reply_model.specs.Histories.{History}
 use Rattle.line_server.specs.Answering.{Answering, over_walks}

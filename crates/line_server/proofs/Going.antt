@@ -1,5 +1,5 @@
 -- On the way through the lines of a piece.
-use Rattle.std.proofs.Common.{◌≡◌, ℕ, ◌-◌, Bool, false, IsTrue, List, [], ◌∷◌, ◌++◌, length, drop, refl, sym, ap, ◌∙◌, subst}
+use Rattle.std.proofs.Common.{◌≡◌, ℕ, ◌-◌, Bool, false, List, [], ◌∷◌, ◌++◌, length, drop, refl, sym, ap, ◌∙◌, subst}
 use Rattle.std.specs.List.{All}
 use Rattle.std.proofs.Math.Nat.{add-sub_cancel}
 use Rattle.std.proofs.Math.Seq.{drop-append_seam}
@@ -9,7 +9,7 @@ use Rattle.std.proofs.lemmas.List.Elements.{All-nil, All-push, All-append}
 use Rattle.session_core.specs.Sessions.{SessionState}
 use Rattle.line_server.specs.Lines.{feed, LacksFeed, ended, text_of}
 use Rattle.line_server.specs.Outboxes.{HasSaid, HasBroken}
-use Rattle.line_server.specs.Sessions.{AnswersLines, DuesLine, DuesLines}
+use Rattle.line_server.specs.Sessions.{AnswersLines, DuesLine}
 use Rattle.line_server.specs.Readers.{AreDropped, HasReplied, HasFailed, nothing, partly, HasComeTo, HasStopped}
 use Rattle.line_server.proofs.Saying.{says_none, says_then, breaks_then, breaks_same, says_same, all_said}
 use Rattle.line_server.proofs.Chains.{ended_append, answers_then, line_alone, no_lines, dues_then, dues_so_far}

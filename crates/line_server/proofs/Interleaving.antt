@@ -1,10 +1,10 @@
 -- What stands between the lines that make and move walkers does not matter to where walkers are.
-use Rattle.std.proofs.Common.{◌≡◌, ℕ, List, [], ◌∷◌, ◌++◌, refl, sym, ap, ap₂, ◌∙◌, subst, arith}
+use Rattle.std.proofs.Common.{◌≡◌, ℕ, List, [], ◌∷◌, ◌++◌, refl, sym, ap, ◌∙◌, subst, arith}
 use Rattle.std.proofs.lemmas.List.{append_assoc, append-nil}
 use Rattle.reply_model.specs.declared.Command.{Command}
 use Rattle.reply_model.specs.declared.Reply.{Reply}
-use Rattle.reply_model.specs.Histories.{History, AreDue}
-use Rattle.reply_laws.specs.Laws.{as_move, moves, AsksPlace, InterleavingsAgree}
+use Rattle.reply_model.specs.Histories.{History}
+use Rattle.reply_laws.specs.Laws.{as_move, moves, InterleavingsAgree}
 use Rattle.reply_laws.proofs.Histories.{none_due}
 use Rattle.command_text.specs.CommandLines.{IsSpelling}
 use Rattle.command_text.specs.Laws.{LinesSpellOne}

@@ -9,9 +9,9 @@ use Rattle.reply_model.specs.declared.Reply.{Reply}
 use Rattle.reply_model.specs.Histories.{History}
 use Rattle.command_text.specs.CommandLines.{spaced, IsSpelling}
 use Rattle.command_text.specs.Laws.{LinesSpellOne}
-use Rattle.line_server.specs.Lines.{LacksFeed, ended, most_of_stream}
+use Rattle.line_server.specs.Lines.{LacksFeed, ended}
 use Rattle.line_server.specs.Answering.{Answering}
-use Rattle.line_server.specs.Outputs.{IsAnswered, too_long, empty, bad, replied, AreAnswered, none, next, IsLinesOutput, IsOutput, IsFrontOutput, of_lines, of_all}
+use Rattle.line_server.specs.Outputs.{IsAnswered, too_long, empty, bad, replied, AreAnswered, none, next, IsLinesOutput, IsOutput, of_lines, of_all}
 use Rattle.line_server.specs.Laws.{Begins, FrontsBegin, FrontsBeginWithinLimit}
 use Rattle.line_server.proofs.Once.{cut_front, one_cut}
 

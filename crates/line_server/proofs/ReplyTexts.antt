@@ -10,7 +10,7 @@ use Rattle.reply_model.specs.declared.Command.{Command}
 use Rattle.reply_model.specs.declared.Reply.{Reply}
 use Rattle.reply_model.specs.declared.Reply.TheVariants.{Tiles}
 use Rattle.reply_model.specs.Histories.{History}
-use Rattle.reply_model.specs.TreeReadings.{tree_reading, IsTreeReply}
+use Rattle.reply_model.specs.TreeReadings.{tree_reading}
 use Rattle.reply_model.specs.WalkReadings.{IsWalkReply}
 use Rattle.reply_model.specs.Replies.{IsReply, ring_told}
 use Rattle.reply_laws.proofs.Together.{replies_agree}

@@ -1,7 +1,6 @@
 -- What an outbox says, one thing after the other.
 use Rattle.std.proofs.Common.{◌≡◌, ℕ, Bool, IsTrue, List, [], ◌++◌, refl, sym, ap, ◌∙◌, subst}
 use Rattle.std.proofs.lemmas.List.{append_assoc, append-nil}
-use Rattle.way_io.specs.Pieces.{AppendsPrefix}
 use Rattle.line_server.specs.Outboxes.{HasSaid, HasBroken}
 
 -- nothing was said, and nothing was written of what waits

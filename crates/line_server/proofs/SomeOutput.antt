@@ -1,6 +1,5 @@
 -- Each line has an answer, and each stream an output.
-use Rattle.std.proofs.Common.{◌≡◌, ◌≢◌, ℕ, ◌<◌, ◌≤◌, ◌⊎◌, inl, inr, List, [], ◌∷◌, ◌++◌, length, refl, sym, ap, ap₂, ◌∙◌, subst}
-use Rattle.std.specs.List.{All}
+use Rattle.std.proofs.Common.{◌≡◌, ◌≢◌, ℕ, ◌<◌, ◌≤◌, ◌⊎◌, inl, inr, List, [], ◌∷◌, ◌++◌, length, refl, ap, ap₂}
 use Rattle.std.proofs.lemmas.Bool.{cases_eq, cases_lt}
 use Rattle.std.proofs.lemmas.List.Elements.{All-nil, All-cons, All-head, All-tail}
 use Rattle.reply_model.specs.declared.Command.{Command}
@@ -8,7 +7,7 @@ use Rattle.reply_model.specs.declared.Reply.{Reply}
 use Rattle.reply_model.specs.Histories.{History}
 use Rattle.command_text.specs.CommandLines.{most_of_line, IsSpelling, SpellsNothing}
 use Rattle.command_text.specs.Laws.{LinesAreDecided}
-use Rattle.line_server.specs.Lines.{feed, LacksFeed, AreCut, ended, text_of}
+use Rattle.line_server.specs.Lines.{feed, LacksFeed, AreCut, text_of}
 use Rattle.line_server.specs.Answering.{Answering}
 use Rattle.line_server.specs.Outputs.{IsAnswered, too_long, empty, bad, replied, too_long_text, bad_text, AreAnswered, none, next, IsOutput}
 

@@ -84,11 +84,17 @@ impl Reader {
             (line ++ take fresh (drop self.old.kept self.old.buffer.items))
             (O.taken out.old) (O.taken out.new)) }
         ensures later { O.faults out.old ≤ O.faults out.new }
-        ensures cause { IsErrOf result Stop.Write
-            → Rose (O.faults out.old) (O.faults out.new) }
+        ensures cause { IsErrOf result Stop.Write → Rose (O.faults out.old) (O.faults out.new) }
     {
         let end = self.kept + fresh;
-        let (rest, lost) = answer_lines(alloc, session, &self.buffer[..end], self.lost, waiting, out)?;
+        let (rest, lost) = answer_lines(
+            alloc,
+            session,
+            &self.buffer[..end],
+            self.lost,
+            waiting,
+            out,
+        )?;
         self.keep(end, rest, lost);
         Ok(())
     }
@@ -133,8 +139,7 @@ impl Reader {
             → OnErr result (HasFailed O.tells session.old line line
             (O.taken out.old) [] (O.taken out.new)) }
         ensures later { O.faults out.old ≤ O.faults out.new }
-        ensures cause { IsErrOf result Stop.Write
-            → Rose (O.faults out.old) (O.faults out.new) }
+        ensures cause { IsErrOf result Stop.Write → Rose (O.faults out.old) (O.faults out.new) }
     {
         let line = &self.buffer[..self.kept];
         answer_one(alloc, session, line, line, self.lost, waiting, out)?;
@@ -167,8 +172,7 @@ fn answer_lines<O: Sink>(
         → OnErr result (HasStopped O.tells session.old (dropped ++ bytes.now)
         (O.taken out.old) (O.taken out.new)) }
     ensures later { O.faults out.old ≤ O.faults out.new }
-    ensures cause { IsErrOf result Stop.Write
-        → Rose (O.faults out.old) (O.faults out.new) }
+    ensures cause { IsErrOf result Stop.Write → Rose (O.faults out.old) (O.faults out.new) }
 {
     let mut lost = lost;
     let mut rest = bytes;
@@ -198,16 +202,13 @@ fn answer_one<O: Sink>(
     ensures replied { (dropped whole : List ℕ) → AreDropped lost dropped
         → IsTextBehind lost text.now whole
         → OnOk result (HasReplied O.tells session.old (dropped ++ line.now) whole
-        (O.taken out.old) waiting.old.items session.new
-        (O.taken out.new) waiting.new.items) }
+        (O.taken out.old) waiting.old.items session.new (O.taken out.new) waiting.new.items) }
     ensures failed { (dropped whole : List ℕ) → AreDropped lost dropped
         → IsTextBehind lost text.now whole
         → OnErr result (HasFailed O.tells session.old (dropped ++ line.now) whole
-        (O.taken out.old) waiting.old.items
-        (O.taken out.new)) }
+        (O.taken out.old) waiting.old.items (O.taken out.new)) }
     ensures later { O.faults out.old ≤ O.faults out.new }
-    ensures cause { IsErrOf result Stop.Write
-        → Rose (O.faults out.old) (O.faults out.new) }
+    ensures cause { IsErrOf result Stop.Write → Rose (O.faults out.old) (O.faults out.new) }
 {
     let is_long = is_too_long(lost, line);
     match answer_line(alloc, session, is_long, text, waiting)? {

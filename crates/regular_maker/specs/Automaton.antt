@@ -6,7 +6,7 @@ use Rattle.tree_model.specs.declared.Claim.{Claim}
 use Rattle.tree_model.specs.declared.Rule.{Rule}
 use Rattle.tree_model.specs.declared.Rule.TheVariants.{Parent, Child, Left, Right}
 use Rattle.tree_model.specs.Automata.{TreeState, TreeAutomaton}
-use Rattle.regular_maker.specs.Corners.{parity, listed, corner_types}
+use Rattle.regular_maker.specs.Corners.{listed, corner_types}
 use Rattle.regular_maker.specs.States.{lowest, rights, lefts, pair_claim, child_pair, child_pairs, first_pair}
 use Rattle.regular_maker.specs.declared.symbol.Pair.{Pair}
 

@@ -3,7 +3,7 @@ use Rattle.std.proofs.lemmas.Bool.Decides.{nat_tests}
 use Rattle.std.proofs.lemmas.List.{append-nil}
 use Rattle.command_text.specs.CommandLines.{IsSpelling}
 use Rattle.line_server.specs.Outputs.{too_long, empty, bad, too_long_text, bad_text}
-use Rattle.line_server.proofs.Answering.{no_bytes, answers_so, numbers_told}
+use Rattle.line_server.proofs.Answering.{no_bytes, answers_so}
 use Rattle.line_server.proofs.answer.answer_line.Goals as goal
 
 pub returns-then-is_long-clause-replied : goal.returns-then-is_long-clause-replied

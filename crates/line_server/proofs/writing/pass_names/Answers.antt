@@ -1,4 +1,4 @@
-use Rattle.std.proofs.Common.{[], ◌++◌, drop, refl, sym, ap, ◌∙◌, arith}
+use Rattle.std.proofs.Common.{[], ◌++◌, drop, refl, sym, ap, arith}
 use Rattle.cell_names.specs.Text.{name_text}
 use Rattle.command_text.specs.Replies.{line_feed}
 use Rattle.ring_listing.specs.Rings.{Listing}
