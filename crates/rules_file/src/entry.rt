@@ -18,7 +18,8 @@ pub(crate) trait Entry: Sized + Drop {
     /// The value that the JSON spells; None where it spells none.
     fn read(alloc: Global, json: &Value, ranked: bool) -> Result<Option<Self>, AllocError>
         ensures some { IfOk result (λ o. IfSome o (λ x. spells ranked (view json.now) x)) }
-        ensures none { IfOk result (λ o. IfNone o ((x : Self) → ¬ spells ranked (view json.now) x)) };
+        ensures none { IfOk result
+            (λ o. IfNone o ((x : Self) → ¬ spells ranked (view json.now) x)) };
 }
 
 impl Entry for u8 {
@@ -138,7 +139,8 @@ pub(crate) fn read_each<T: Entry>(
 ) -> Result<Result<Vec<T>, usize>, AllocError>
     ensures found { IfOk result
         (λ r. IfOk r (λ v. SpellEach (T.spells ranked) (items_view entries.now) v.items)) }
-    ensures misfit { IfOk result (λ r. IfErr r (IsFirstMisfit (T.spells ranked) (items_view entries.now))) }
+    ensures misfit { IfOk result
+        (λ r. IfErr r (IsFirstMisfit (T.spells ranked) (items_view entries.now))) }
 {
     let mut found = Vec::new(alloc);
     for at in 0..entries.len() {
