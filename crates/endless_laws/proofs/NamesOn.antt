@@ -1,5 +1,5 @@
 -- The tree of accepted rules has names of each length.
-use Rattle.std.proofs.Common.{◌≡◌, ℕ, zero, suc, ◌+◌, ◌*◌, ◌<◌, ◌≤◌, ◌⊎◌, inl, inr, List, [], ◌∷◌, ◌++◌, length, take, refl, sym, ap, ◌∙◌, arith, mul-le-mul_left}
+use Rattle.std.proofs.Common.{◌≡◌, ℕ, zero, suc, ◌+◌, ◌*◌, ◌<◌, ◌≤◌, ◌⊎◌, inl, inr, List, [], ◌∷◌, ◌++◌, length, refl, sym, ap, ◌∙◌, arith, mul-le-mul_left}
 use Rattle.std.proofs.lemmas.Bool.{cases_lt}
 use Rattle.std.proofs.lemmas.List.{length_push}
 use Rattle.tile_model.specs.Tessellations.{TileKind}
@@ -8,7 +8,7 @@ use Rattle.tree_model.specs.declared.Rule.{Rule}
 use Rattle.tree_model.specs.declared.Rule.TheVariants.{Parent, Child, Left, Right}
 use Rattle.tree_model.specs.Automata.{TreeAutomaton, rule_at, root_at}
 use Rattle.tree_model.specs.Conditions.{IsAccepted}
-use Rattle.tree_model.specs.Contours.{Opens, Closes}
+use Rattle.tree_model.specs.Contours.{Opens}
 use Rattle.tree_model.specs.Names.{child_of, IsNameBelow, IsName, state_of}
 use Rattle.tree_model.specs.Positions.{Position, IsPosition, mark_of_rule, rule_of, claim_of, mark}
 use Rattle.tree_model.proofs.Names.{name_push, name_state}

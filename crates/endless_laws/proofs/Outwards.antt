@@ -1,5 +1,5 @@
 -- Each opening side has a heavier one further out, at place 0 of its outer corner. So there are opening sides of any weight.
-use Rattle.std.proofs.Common.{◌≡◌, ℕ, zero, suc, ◌+◌, ◌*◌, ◌<◌, ◌≤◌, refl, ap, ◌∙◌, arith, pos, ◌+ℤ◌}
+use Rattle.std.proofs.Common.{◌≡◌, ℕ, zero, suc, ◌+◌, ◌*◌, ◌≤◌, refl, ap, ◌∙◌, arith, pos, ◌+ℤ◌}
 use Rattle.std.proofs.lemmas.Int.{ints}
 use Rattle.tree_model.specs.Contours.{Opens, stay}
 use Rattle.tree_laws.specs.Plane.{Land, IsPlane}

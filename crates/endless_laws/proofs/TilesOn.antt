@@ -1,6 +1,5 @@
 -- There is a tile at each distance from the root, and no number is that of the tiles.
-use Rattle.std.proofs.Common.{◌≡◌, ℕ, zero, suc, ◌<◌, ◌≤◌, List, [], length, sym, ap, ◌∙◌, subst, arith}
-use Rattle.tile_model.specs.declared.Letter.{Letter}
+use Rattle.std.proofs.Common.{◌≡◌, ℕ, suc, ◌<◌, ◌≤◌, List, [], length, ap, subst, arith}
 use Rattle.tile_model.specs.Tessellations.{TileKind, IsType}
 use Rattle.tile_model.specs.Validity.{IsValid}
 use Rattle.tile_model.specs.Relation.{AreAtSameTile, IsDistance}
