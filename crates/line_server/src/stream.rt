@@ -83,20 +83,17 @@ pub fn serve<I: Source, O: Sink>(
     ensures in_order { IsTrue I.tells → GivesInOrder (I.left input.old) (I.left input.new) }
     ensures kept { IsTrue O.tells → TakesMore (O.taken out.old) (O.taken out.new) }
 {
-    let mut waiting = Vec::new(alloc);
-    serve_lines(alloc, session, input, &mut waiting, out)
+    serve_lines(alloc, session, input, out)
 }
 
-/// Answers the lines of a stream, and tells in one clause how that ended. Nothing waits before.
+/// Answers the lines of a stream, and tells in one clause how that ended.
 fn serve_lines<I: Source, O: Sink>(
     alloc: Global,
     session: &mut Session<'_>,
     input: &mut I,
-    waiting: &mut Vec<u8>,
     out: &mut O,
 ) -> Ending
-    requires room { length session.old.texts + most_of_stream < most_texts }
-    requires written { waiting.old.items ≡ [] }
+    requires { length session.old.texts + most_of_stream < most_texts }
     ensures ends { EndsAs I.tells O.tells
         session.old (I.left input.old) (O.taken out.old)
         session.new (I.left input.new) (O.taken out.new) result }
@@ -109,19 +106,20 @@ fn serve_lines<I: Source, O: Sink>(
     let Ok(mut reader) = Reader::new(alloc) else {
         return Ending::Memory;
     };
+    let mut waiting = Vec::new(alloc);
     let mut total = 0;
     loop {
         let Ok(count) = reader.read(input) else {
             return Ending::ReadFault;
         };
         if count == 0 {
-            if let Err(stop) = reader.finish(alloc, session, waiting, out) {
+            if let Err(stop) = reader.finish(alloc, session, &mut waiting, out) {
                 return ending_of(stop);
             }
             return Ending::Done;
         }
         let fresh = count.min(LONGEST_STREAM - total);
-        if let Err(stop) = reader.answer(alloc, session, fresh, waiting, out) {
+        if let Err(stop) = reader.answer(alloc, session, fresh, &mut waiting, out) {
             return ending_of(stop);
         }
         if fresh < count {

@@ -13,7 +13,7 @@ returns-in_default-clause-ends g c = no_room _ _ _ _ _
 pub loop-count-init : goal.loop-count-init
 loop-count-init g c = record {
   shape = c.in-Ok.ensures.shape;
-  written = c.requires.written;
+  written = c.new-waiting.ensures.items;
   serving = starts _ _ _ _ _ c.in-Ok.reader c.in-Ok.ensures.nothing;
   few = omega arith;
   texts = omega (arith, c.in-Ok.ensures.empty);
@@ -94,5 +94,5 @@ finish-requires-clause-room g c =
       c.read.ensures.kept,
       c.loop-count.invariant.texts,
       c.loop-count.invariant.few,
-      c.requires.room,
+      c.requires,
     )
