@@ -1,0 +1,5 @@
+pub mod Deciding
+pub mod Refining
+pub mod Searching
+pub mod Numbered
+pub mod Reduced

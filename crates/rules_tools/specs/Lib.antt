@@ -1,0 +1,4 @@
+pub mod Reached
+pub mod Keys
+pub mod Classes
+pub mod Reducing
