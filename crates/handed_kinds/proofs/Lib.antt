@@ -1,0 +1,9 @@
+pub mod Residues
+pub mod Numbers
+pub mod Flat
+pub mod Valid
+pub mod FlatWalks
+pub mod Sized
+pub mod Refused
+pub mod OneFault
+pub mod Expanding
