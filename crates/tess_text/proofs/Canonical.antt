@@ -4,19 +4,44 @@ use Rattle.std.specs.Prelude.{Option, IsSome}
 use Rattle.std.specs.Option.{option_or}
 use Rattle.std.proofs.lemmas.List.{append-nil, length-map}
 use Rattle.std.proofs.lemmas.Bool.{cases_Bool}
-use Rattle.tile_model.specs.Tessellations.{TileKind, kind_at, IsType, cross, valence as valence_of}
+use Rattle.std.proofs.Math.ListN.{get_or-map as map_at}
+use Rattle.handed_kinds.specs.Handed.{HandedKind, handed_at, IsSide as IsSideOf, partner_at}
+use Rattle.tess_text.specs.declared.version.Version.TheVariants.{One}
+use Rattle.tile_model.specs.Tessellations.{TileKind, no_kind, kind_at, IsType, cross, valence as valence_of}
 use Rattle.tile_model.specs.Validity.{IsValid}
 use Rattle.tile_model.proofs.Types.{cross_is}
 use Rattle.tess_text.specs.declared.entry.Entry.{Entry}
 use Rattle.tess_text.specs.declared.entry.Entry.TheVariants.{Kind, Corner}
 use Rattle.tess_text.specs.FileLines.{word_lines}
-use Rattle.tess_text.specs.Grammar.{entries, shapes, IsSide, is_same, partner, valence, valence_in, head, IsGoodEnd, IsGoodAt}
-use Rattle.tess_text.specs.Spelling.{Spells, IsSpelling}
+use Rattle.tess_text.specs.Grammar.{entries, shapes, IsSide, is_same, partner, valence, valence_in, head, version_of, IsGoodEnd, IsGoodAt}
+use Rattle.tess_text.specs.Spelling.{Spells, plain, IsSpelling}
 use Rattle.tess_text.specs.Text.{is_before, kind_entries, partner_entries, join_entries, valence_entries, corner_entries, all_entries, entries_text, tess_text}
 use Rattle.tess_text.proofs.Entering.{shapes-push, partner-push, valence-push, same_pair}
 use Rattle.tess_text.proofs.Spaced.{AllSmall, entry_words, entry_lines, word_line}
 use Rattle.tess_text.proofs.GoodLines.{AllGood, good_append, entries_said, good_lines}
-use Rattle.tess_text.proofs.GoodEntries.{last_before, not_before, not_same, not_self, kind_before, not_kind_before, all_before, none_before, shape, small_append, side_of, type_of_side, repeat_small, kind_byte, residue_byte, Joins, Joined, partners_good}
+use Rattle.tess_text.proofs.GoodEntries.{unmarked, last_before, not_before, not_same, not_self, kind_before, not_kind_before, all_before, none_before, shape, small_append, side_of, type_of_side, repeat_small, kind_byte, residue_byte, Joins, Joined, partners_good}
+
+-- a kind with plain marks
+abbrev marked : TileKind → HandedKind
+marked kind =
+    record {
+      sides = kind.sides;
+      repeat = kind.repeat;
+      partner = map unmarked kind.partner;
+      valence = kind.valence;
+    }
+
+-- is that kind without them
+plain_partners : (ps : List (ℕ × ℕ)) → map (λ (q : ℕ × ℕ × Bool). (q.0, q.1)) (map unmarked ps) ≡ ps
+plain_partners [] = refl
+plain_partners (p ∷ ps) = ap (λ (l : List (ℕ × ℕ)). p ∷ l) (plain_partners ps)
+
+plain_marked : (ks : List TileKind) → map plain (map marked ks) ≡ ks
+plain_marked [] = refl
+plain_marked (kind ∷ ks) = λ i. same i ∷ plain_marked ks i
+  where
+    same : plain (marked kind) ≡ kind
+    same = λ i. record { sides = kind.sides; repeat = kind.repeat; partner = plain_partners kind.partner i; valence = kind.valence }
 
 -- the kind lines
 kinds_good : (done : List Entry) (k : ℕ) (rest : List TileKind) → length (shapes done) ≡ k → AllGood done (kind_entries k rest)
@@ -102,7 +127,7 @@ module _ (kinds : List TileKind) (valid : IsValid kinds) where
   -- All joins are done, and the corners of all sides before a place.
   record Corners (done : List Entry) (at : ℕ × ℕ) : Type 0 where
     pub shaped : shapes done ≡ map shape kinds
-    pub joined : (q : ℕ × ℕ) → IsType kinds q → partner done q ≡ Some (cross kinds q)
+    pub joined : (q : ℕ × ℕ) → IsType kinds q → partner done q ≡ Some (unmarked (cross kinds q))
     pub told : (q : ℕ × ℕ) → IsType kinds q → is_before q at ≡ true → valence done q ≡ Some (valence_of kinds q)
     pub free : (q : ℕ × ℕ) → is_before q at ≡ false → valence done q ≡ None
 
@@ -118,7 +143,7 @@ module _ (kinds : List TileKind) (valid : IsValid kinds) where
   cornered_here : (done : List Entry) (k s v : ℕ) → Corners done (k, s) → v ≡ valence_of kinds (k, s) → Corners (done ++ Corner k s v ∷ []) (k, s + 1)
   cornered_here done k s v j is = record {
     shaped = shapes-push done (Corner k s v) ∙ append-nil (shapes done) ∙ j.shaped;
-    joined = λ q of_type. partner-push done (Corner k s v) q ∙ ap (λ (o : Option (ℕ × ℕ)). option_or o None) (j.joined q of_type);
+    joined = λ q of_type. partner-push done (Corner k s v) q ∙ ap (λ (o : Option (ℕ × ℕ × Bool)). option_or o None) (j.joined q of_type);
     told = λ q of_type before.
         valence-push done (Corner k s v) q
         ∙ corner_told v q (valence done q) (is_same q (k, s))
@@ -208,17 +233,47 @@ module _ (kinds : List TileKind) (valid : IsValid kinds) where
   finished : Corners (all_entries kinds) (length kinds, 0)
   finished = subst (λ (l : List Entry). Corners l (length kinds, 0)) (append_assoc told_kinds (join_entries 0 kinds) (corner_entries 0 kinds)) second_part.corners
 
-  spelt : Spells (all_entries kinds) kinds
+  given : (q : ℕ × ℕ) → IsType kinds q → valence (all_entries kinds) q ≡ Some (valence_of kinds q)
+  given q of_type = finished.told q of_type (all_before q (length kinds) of_type.0)
+
+  -- the kinds with plain marks
+  abbrev said : List HandedKind
+  said = map marked kinds
+
+  said_at : (k : ℕ) → handed_at said k ≡ marked (kind_at kinds k)
+  said_at k = map_at marked kinds k no_kind
+
+  said_type : (d : ℕ × ℕ) → IsSideOf said d → IsType kinds d
+  said_type d side = (omega (arith, length-map kinds marked, side.0), omega (arith, ap (λ (x : HandedKind). x.repeat) (said_at d.0), side.1))
+
+  said_kind : (k : ℕ) → k < length said → k < length kinds
+  said_kind k lt = omega (arith, length-map kinds marked)
+
+  said_partner : (d : ℕ × ℕ) → IsType kinds d → partner_at said d ≡ unmarked (cross kinds d)
+  said_partner d of_type =
+      ap (λ (x : HandedKind). get_or x.partner d.1 (0, 0, false)) (said_at d.0)
+      ∙ map_at unmarked (kind_at kinds d.0).partner d.1 (0, 0)
+      ∙ ap (λ (q : ℕ × ℕ). unmarked q) (sym (cross_is kinds d of_type))
+
+  said_shapes : (ks : List TileKind) → map (λ (kind : HandedKind). (kind.sides, kind.repeat)) (map marked ks) ≡ map shape ks
+  said_shapes [] = refl
+  said_shapes (kind ∷ ks) = ap (λ (l : List (ℕ × ℕ)). (kind.sides, kind.repeat) ∷ l) (said_shapes ks)
+
+  spelt : Spells (all_entries kinds) said
   spelt = record {
-    shapes = sym finished.shaped;
-    partners = λ k lt. (valid.repeat k lt).partners;
-    valences = λ k lt. (valid.repeat k lt).valences;
-    joined = finished.joined;
-    given = λ q of_type. finished.told q of_type (all_before q (length kinds) of_type.0);
+    shapes = said_shapes kinds ∙ sym finished.shaped;
+    partners = λ k lt.
+        ap (λ (x : HandedKind). length x.partner) (said_at k) ∙ length-map (kind_at kinds k).partner unmarked
+        ∙ (valid.repeat k (said_kind k lt)).partners ∙ ap (λ (x : HandedKind). x.repeat) (sym (said_at k));
+    valences = λ k lt.
+        ap (λ (x : HandedKind). length x.valence) (said_at k)
+        ∙ (valid.repeat k (said_kind k lt)).valences ∙ ap (λ (x : HandedKind). x.repeat) (sym (said_at k));
+    joined = λ q side. finished.joined q (said_type q side) ∙ ap (λ (p : ℕ × ℕ × Bool). Some p) (sym (said_partner q (said_type q side)));
+    given = λ q side. given q (said_type q side) ∙ ap (λ (v : ℕ). Some v) (ap (λ (x : HandedKind). get_or x.valence q.1 0) (sym (said_at q.0)));
   }
 
   abbrev the_lines : List (List (List ℕ))
-  the_lines = head ∷ map entry_words (all_entries kinds)
+  the_lines = head One ∷ map entry_words (all_entries kinds)
 
   says : entries the_lines ≡ all_entries kinds
   says = entries_said (all_entries kinds) all_small
@@ -227,8 +282,8 @@ module _ (kinds : List TileKind) (valid : IsValid kinds) where
   end_of_entries es is =
       subst (λ (l : List Entry). (1 ≤ length (shapes l)) × ((d : ℕ × ℕ) → IsSide l d → IsSome (partner l d)) × ((d : ℕ × ℕ) → IsSide l d → IsSome (valence l d))) (sym is) (
         omega (arith, ap (λ (l : List (ℕ × ℕ)). length l) finished.shaped, length-map kinds shape, valid.count.0),
-        λ d side. subst (λ (o : Option (ℕ × ℕ)). IsSome o) (sym (finished.joined d (type_of_side kinds valid (all_entries kinds) d finished.shaped side))) refl,
-        λ d side. subst (λ (o : Option ℕ). IsSome o) (sym (spelt.given d (type_of_side kinds valid (all_entries kinds) d finished.shaped side))) refl,
+        λ d side. subst (λ (o : Option (ℕ × ℕ × Bool)). IsSome o) (sym (finished.joined d (type_of_side kinds valid (all_entries kinds) d finished.shaped side))) refl,
+        λ d side. subst (λ (o : Option ℕ). IsSome o) (sym (given d (type_of_side kinds valid (all_entries kinds) d finished.shaped side))) refl,
       )
 
   good_end : IsGoodEnd the_lines
@@ -239,10 +294,16 @@ module _ (kinds : List TileKind) (valid : IsValid kinds) where
   lines_are : word_lines (tess_text kinds) ≡ the_lines
   lines_are =
       word_line (codes "tess") (codes "1" ∷ []) (entries_text (all_entries kinds)) (omega arith, (omega arith, (omega arith, (omega arith, (omega arith, tt))))) ((omega arith, (omega arith, tt)), tt)
-      ∙ ap (λ (l : List (List (List ℕ))). head ∷ l) (entry_lines (all_entries kinds) all_small)
+      ∙ ap (λ (l : List (List (List ℕ))). head One ∷ l) (entry_lines (all_entries kinds) all_small)
 
   pub canonical_spelling : IsSpelling (tess_text kinds) kinds
   canonical_spelling = record {
-    grammar = subst (λ (ls : List (List (List ℕ))). (i : ℕ) → i ≤ length ls → IsGoodAt ls i) (sym lines_are) (good_lines (all_entries kinds) all_small all_good good_end);
-    spells = subst (λ (ls : List (List (List ℕ))). Spells (entries ls) kinds) (sym lines_are) (subst (λ (es : List Entry). Spells es kinds) (sym says) spelt);
+    version = One;
+    said = said;
+    says = record {
+      grammar = subst (λ (ls : List (List (List ℕ))). (i : ℕ) → i ≤ length ls → IsGoodAt ls i) (sym lines_are) (good_lines (all_entries kinds) all_small all_good good_end);
+      head = sym (ap (λ (ls : List (List (List ℕ))). version_of ls) lines_are);
+      spells = subst (λ (ls : List (List (List ℕ))). Spells (entries ls) said) (sym lines_are) (subst (λ (es : List Entry). Spells es said) (sym says) spelt);
+    };
+    value = sym (plain_marked kinds);
   }

@@ -16,7 +16,7 @@ use Rattle.tess_text.specs.Tables.{Table, blank, table_at, partner_at, valence_a
 pub shapes-push : (es : List Entry) (e : Entry) → shapes (es ++ e ∷ []) ≡ shapes es ++ shapes (e ∷ [])
 shapes-push [] e = refl
 shapes-push (Kind k sides repeat ∷ es) e = ap (λ (l : List (ℕ × ℕ)). (sides, repeat) ∷ l) (shapes-push es e)
-shapes-push (Join k s k2 s2 ∷ es) e = shapes-push es e
+shapes-push (Join k s k2 s2 mark ∷ es) e = shapes-push es e
 shapes-push (Corner k s v ∷ es) e = shapes-push es e
 
 or_none : {X : Type 0} (o : Option X) → option_or o None ≡ o
@@ -29,7 +29,7 @@ or_assoc (Some x) b c = refl
 
 pub partner-push : (es : List Entry) (e : Entry) (d : ℕ × ℕ) → partner (es ++ e ∷ []) d ≡ option_or (partner es d) (partner_in e d)
 partner-push [] e d = or_none (partner_in e d)
-partner-push (f ∷ es) e d = ap (λ (o : Option (ℕ × ℕ)). option_or (partner_in f d) o) (partner-push es e d) ∙ or_assoc (partner_in f d) (partner es d) (partner_in e d)
+partner-push (f ∷ es) e d = ap (λ (o : Option (ℕ × ℕ × Bool)). option_or (partner_in f d) o) (partner-push es e d) ∙ or_assoc (partner_in f d) (partner es d) (partner_in e d)
 
 pub valence-push : (es : List Entry) (e : Entry) (d : ℕ × ℕ) → valence (es ++ e ∷ []) d ≡ option_or (valence es d) (valence_in e d)
 valence-push [] e d = or_none (valence_in e d)
@@ -59,7 +59,7 @@ at_other : (tables : List Table) (k j : ℕ) (t : Table) → j ≢ k → table_a
 at_other tables k j t ne = get_or-set_other tables k j t (blank 0 0) ne
 
 -- partners after one is put
-partner_put : (tables : List Table) (d e q : ℕ × ℕ) → d.0 < length tables → d.1 < length (table_at tables d.0).partner → partner_at (put_partner tables d e) q ≡ cond (is_same q d) (Some e) (partner_at tables q)
+partner_put : (tables : List Table) (d : ℕ × ℕ) (e : ℕ × ℕ × Bool) (q : ℕ × ℕ) → d.0 < length tables → d.1 < length (table_at tables d.0).partner → partner_at (put_partner tables d e) q ≡ cond (is_same q d) (Some e) (partner_at tables q)
 partner_put tables d e q kind residue =
     let t : Table = record (table_at tables d.0) { partner = set (table_at tables d.0).partner d.1 (Some e) } in
     elim (cases_Bool (is_same q d)) [
@@ -95,7 +95,7 @@ partner_kept tables d q v kind =
       | inr away ↦ rw (at_other tables d.0 q.0 t away) refl
     ]
 
-valence_kept : (tables : List Table) (d e q : ℕ × ℕ) → d.0 < length tables → valence_at (put_partner tables d e) q ≡ valence_at tables q
+valence_kept : (tables : List Table) (d : ℕ × ℕ) (e : ℕ × ℕ × Bool) (q : ℕ × ℕ) → d.0 < length tables → valence_at (put_partner tables d e) q ≡ valence_at tables q
 valence_kept tables d e q kind =
     let t : Table = record (table_at tables d.0) { partner = set (table_at tables d.0).partner d.1 (Some e) } in
     elim (cases_eq q.0 d.0) [
@@ -130,7 +130,7 @@ set_shapes tables said k t has lt sides repeat partners valences =
 shapes_of : (tables : List Table) (es : List Entry) → Hold tables es → HasShapes tables (shapes es)
 shapes_of tables es hold = record { shapes = hold.shapes; partners = hold.partners; valences = hold.valences }
 
-put_partner_shapes : (tables : List Table) (said : List (ℕ × ℕ)) (d e : ℕ × ℕ) → HasShapes tables said → d.0 < length tables → HasShapes (put_partner tables d e) said
+put_partner_shapes : (tables : List Table) (said : List (ℕ × ℕ)) (d : ℕ × ℕ) (e : ℕ × ℕ × Bool) → HasShapes tables said → d.0 < length tables → HasShapes (put_partner tables d e) said
 put_partner_shapes tables said d e has kind = set_shapes tables said d.0 _ has kind refl refl (length-set (table_at tables d.0).partner d.1 (Some e)) refl
 
 put_valence_shapes : (tables : List Table) (said : List (ℕ × ℕ)) (d : ℕ × ℕ) (v : ℕ) → HasShapes tables said → d.0 < length tables → HasShapes (put_valence tables d v) said
@@ -175,18 +175,18 @@ ungiven_at tables es d hold free =
     }
 
 -- the partner of each side q after a join of d and e
-join_cases : (d e q : ℕ × ℕ) (o : Option (ℕ × ℕ)) (is_d is_e : Bool) → (is_d ≡ true → q ≡ d) → (is_e ≡ true → q ≡ e) → (is_d ≡ true → o ≡ None) → (is_e ≡ true → o ≡ None) → cond is_e (Some d) (cond is_d (Some e) o) ≡ option_or o (cond is_d (Some e) (cond is_e (Some d) None))
-join_cases d e q o true true at_d at_e free_d free_e = rw (free_d refl) (ap (λ (p : ℕ × ℕ). Some p) (sym (at_d refl) ∙ at_e refl))
-join_cases d e q o true false at_d at_e free_d free_e = rw (free_d refl) refl
-join_cases d e q o false true at_d at_e free_d free_e = rw (free_e refl) refl
-join_cases d e q o false false at_d at_e free_d free_e = sym (or_none o)
+join_cases : (d e q : ℕ × ℕ) (mark : Bool) (o : Option (ℕ × ℕ × Bool)) (is_d is_e : Bool) → (is_d ≡ true → q ≡ d) → (is_e ≡ true → q ≡ e) → (is_d ≡ true → o ≡ None) → (is_e ≡ true → o ≡ None) → cond is_e (Some (d.0, d.1, mark)) (cond is_d (Some (e.0, e.1, mark)) o) ≡ option_or o (cond is_d (Some (e.0, e.1, mark)) (cond is_e (Some (d.0, d.1, mark)) None))
+join_cases d e q mark o true true at_d at_e free_d free_e = rw (free_d refl) (ap (λ (p : ℕ × ℕ). Some (p.0, p.1, mark)) (sym (at_d refl) ∙ at_e refl))
+join_cases d e q mark o true false at_d at_e free_d free_e = rw (free_d refl) refl
+join_cases d e q mark o false true at_d at_e free_d free_e = rw (free_e refl) refl
+join_cases d e q mark o false false at_d at_e free_d free_e = sym (or_none o)
 
 corner_cases : (v : ℕ) (o : Option ℕ) (is_d : Bool) → (is_d ≡ true → o ≡ None) → cond is_d (Some v) o ≡ option_or o (cond is_d (Some v) None)
 corner_cases v o true free = rw (free refl) refl
 corner_cases v o false free = sym (or_none o)
 
 -- a put keeps each place
-place_kept : (tables : List Table) (d e : ℕ × ℕ) (k s : ℕ) → d.0 < length tables → s < length (table_at tables k).partner → s < length (table_at (put_partner tables d e) k).partner
+place_kept : (tables : List Table) (d : ℕ × ℕ) (e : ℕ × ℕ × Bool) (k s : ℕ) → d.0 < length tables → s < length (table_at tables k).partner → s < length (table_at (put_partner tables d e) k).partner
 place_kept tables d e k s kind lt =
     let t : Table = record (table_at tables d.0) { partner = set (table_at tables d.0).partner d.1 (Some e) } in
     elim (cases_eq k d.0) [
@@ -195,29 +195,31 @@ place_kept tables d e k s kind lt =
     ]
 
 -- the tables after a join
-pub hold_join : (tables : List Table) (es : List Entry) (d e : ℕ × ℕ) → Hold tables es → IsUnjoinedAt tables d → IsUnjoinedAt tables e → Hold (put_partner (put_partner tables d e) e d) (es ++ Join d.0 d.1 e.0 e.1 ∷ [])
-hold_join tables es d e hold at_d at_e =
-    let first = put_partner tables d e in
-    let t : Table = record (table_at tables d.0) { partner = set (table_at tables d.0).partner d.1 (Some e) } in
+pub hold_join : (tables : List Table) (es : List Entry) (d e : ℕ × ℕ) (mark : Bool) → Hold tables es → IsUnjoinedAt tables d → IsUnjoinedAt tables e → Hold (put_partner (put_partner tables d (e.0, e.1, mark)) e (d.0, d.1, mark)) (es ++ Join d.0 d.1 e.0 e.1 mark ∷ [])
+hold_join tables es d e mark hold at_d at_e =
+    let across : ℕ × ℕ × Bool = (e.0, e.1, mark) in
+    let back : ℕ × ℕ × Bool = (d.0, d.1, mark) in
+    let first = put_partner tables d across in
+    let t : Table = record (table_at tables d.0) { partner = set (table_at tables d.0).partner d.1 (Some across) } in
     let kind : e.0 < length first = omega (arith, length-set tables d.0 t, at_e.kind) in
-    let has1 = put_partner_shapes tables (shapes es) d e (shapes_of tables es hold) at_d.kind in
-    let has2 = put_partner_shapes first (shapes es) e d has1 kind in
-    let residue : e.1 < length (table_at first e.0).partner = place_kept tables d e e.0 e.1 at_d.kind at_e.residue in
+    let has1 = put_partner_shapes tables (shapes es) d across (shapes_of tables es hold) at_d.kind in
+    let has2 = put_partner_shapes first (shapes es) e back has1 kind in
+    let residue : e.1 < length (table_at first e.0).partner = place_kept tables d across e.0 e.1 at_d.kind at_e.residue in
     record {
-      shapes = has2.shapes ∙ sym (shapes-push es (Join d.0 d.1 e.0 e.1) ∙ append-nil (shapes es));
+      shapes = has2.shapes ∙ sym (shapes-push es (Join d.0 d.1 e.0 e.1 mark) ∙ append-nil (shapes es));
       partners = has2.partners;
       valences = has2.valences;
       joined = λ q.
-          partner_put first e d q kind residue
-          ∙ ap (λ (o : Option (ℕ × ℕ)). cond (is_same q e) (Some d) o) (partner_put tables d e q at_d.kind at_d.residue)
-          ∙ join_cases d e q (partner_at tables q) (is_same q d) (is_same q e) (same_pair q d) (same_pair q e)
+          partner_put first e back q kind residue
+          ∙ ap (λ (o : Option (ℕ × ℕ × Bool)). cond (is_same q e) (Some back) o) (partner_put tables d across q at_d.kind at_d.residue)
+          ∙ join_cases d e q mark (partner_at tables q) (is_same q d) (is_same q e) (same_pair q d) (same_pair q e)
           (λ same. ap (λ (p : ℕ × ℕ). partner_at tables p) (same_pair q d same) ∙ at_d.free)
           (λ same. ap (λ (p : ℕ × ℕ). partner_at tables p) (same_pair q e same) ∙ at_e.free)
-          ∙ ap (λ (o : Option (ℕ × ℕ)). option_or o (partner_in (Join d.0 d.1 e.0 e.1) q)) (hold.joined q)
-          ∙ sym (partner-push es (Join d.0 d.1 e.0 e.1) q);
+          ∙ ap (λ (o : Option (ℕ × ℕ × Bool)). option_or o (partner_in (Join d.0 d.1 e.0 e.1 mark) q)) (hold.joined q)
+          ∙ sym (partner-push es (Join d.0 d.1 e.0 e.1 mark) q);
       given = λ q.
-          valence_kept first e d q kind ∙ valence_kept tables d e q at_d.kind ∙ hold.given q
-          ∙ sym (valence-push es (Join d.0 d.1 e.0 e.1) q ∙ or_none (valence es q));
+          valence_kept first e back q kind ∙ valence_kept tables d across q at_d.kind ∙ hold.given q
+          ∙ sym (valence-push es (Join d.0 d.1 e.0 e.1 mark) q ∙ or_none (valence es q));
     }
 
 -- the tables after a corner
@@ -300,12 +302,12 @@ pub no_kind : (tables : List Table) (es : List Entry) (entry : Entry) (k sides r
 no_kind tables es entry k sides repeat is other hold good =
     other (subst (λ (e : Entry). IsGoodEntry es e) is good ∙ sym (kinds_said tables es hold))
 
-pub entered_join : (tables after : List Table) (es : List Entry) (entry : Entry) (d e : ℕ × ℕ) (r : Bool) → entry ≡ Join d.0 d.1 e.0 e.1 → IsTrue r ↔ (IsUnjoinedAt tables d × IsUnjoinedAt tables e) → (IsTrue r → after ≡ put_partner (put_partner tables d e) e d) → Hold tables es → MatchBool r (IsGoodEntry es entry × Hold after (es ++ entry ∷ [])) (IsGoodEntry es entry → ⊥)
-entered_join tables after es entry d e true is test changed hold =
+pub entered_join : (tables after : List Table) (es : List Entry) (entry : Entry) (d e : ℕ × ℕ) (mark : Bool) (r : Bool) → entry ≡ Join d.0 d.1 e.0 e.1 mark → IsTrue r ↔ (IsUnjoinedAt tables d × IsUnjoinedAt tables e) → (IsTrue r → after ≡ put_partner (put_partner tables d (e.0, e.1, mark)) e (d.0, d.1, mark)) → Hold tables es → MatchBool r (IsGoodEntry es entry × Hold after (es ++ entry ∷ [])) (IsGoodEntry es entry → ⊥)
+entered_join tables after es entry d e mark true is test changed hold =
     let free = test.0 refl in
     subst (λ (x : Entry). IsGoodEntry es x × Hold after (es ++ x ∷ [])) (sym is)
-    ((unjoined tables es d hold free.0, unjoined tables es e hold free.1), subst (λ (ts : List Table). Hold ts (es ++ Join d.0 d.1 e.0 e.1 ∷ [])) (sym (changed refl)) (hold_join tables es d e hold free.0 free.1))
-entered_join tables after es entry d e false is test changed hold = λ good.
+    ((unjoined tables es d hold free.0, unjoined tables es e hold free.1), subst (λ (ts : List Table). Hold ts (es ++ Join d.0 d.1 e.0 e.1 mark ∷ [])) (sym (changed refl)) (hold_join tables es d e mark hold free.0 free.1))
+entered_join tables after es entry d e mark false is test changed hold = λ good.
     let both = subst (λ (x : Entry). IsGoodEntry es x) is good in
     let no : false ≡ true = test.1 (unjoined_at tables es d hold both.0, unjoined_at tables es e hold both.1) in
     absurd (cc)

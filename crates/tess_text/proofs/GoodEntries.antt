@@ -42,6 +42,10 @@ all_before q n lt = grind (arith, nat_tests)
 pub none_before : (q : ℕ × ℕ) → is_before q (0, 0) ≡ false
 none_before q = grind (arith, nat_tests)
 
+-- a partner across a plain join
+abbrev pub unmarked : ℕ × ℕ → ℕ × ℕ × Bool
+unmarked d = (d.0, d.1, false)
+
 abbrev pub shape : TileKind → ℕ × ℕ
 shape kind = (kind.sides, kind.repeat)
 
@@ -76,7 +80,7 @@ module _ (kinds : List TileKind) (valid : IsValid kinds) where
   -- The joins of all sides before a place are done: a side is joined where it or its partner stands before the place.
   pub record Joins (done : List Entry) (at : ℕ × ℕ) : Type 0 where
     pub shaped : shapes done ≡ map shape kinds
-    pub told : (q : ℕ × ℕ) → IsType kinds q → (is_before q at ≡ true) ⊎ (is_before (cross kinds q) at ≡ true) → partner done q ≡ Some (cross kinds q)
+    pub told : (q : ℕ × ℕ) → IsType kinds q → (is_before q at ≡ true) ⊎ (is_before (cross kinds q) at ≡ true) → partner done q ≡ Some (unmarked (cross kinds q))
     pub free : (q : ℕ × ℕ) → is_before q at ≡ false → is_before (cross kinds q) at ≡ false → partner done q ≡ None
     pub ungiven : (q : ℕ × ℕ) → valence done q ≡ None
 
@@ -112,9 +116,9 @@ module _ (kinds : List TileKind) (valid : IsValid kinds) where
   }
 
   -- the partner of q after a join of d and e
-  join_told : (d e q : ℕ × ℕ) (o : Option (ℕ × ℕ)) (is_d is_e : Bool) → (is_d ≡ true → o ≡ None) → (is_d ≡ true → e ≡ cross kinds q) → (is_e ≡ true → o ≡ None) → (is_e ≡ true → d ≡ cross kinds q) → (is_d ≡ false → is_e ≡ false → o ≡ Some (cross kinds q)) → option_or o (cond is_d (Some e) (cond is_e (Some d) None)) ≡ Some (cross kinds q)
-  join_told d e q o true is_e free_d at_d free_e at_e other = rw (free_d refl) (ap (λ (p : ℕ × ℕ). Some p) (at_d refl))
-  join_told d e q o false true free_d at_d free_e at_e other = rw (free_e refl) (ap (λ (p : ℕ × ℕ). Some p) (at_e refl))
+  join_told : (d e q : ℕ × ℕ) (o : Option (ℕ × ℕ × Bool)) (is_d is_e : Bool) → (is_d ≡ true → o ≡ None) → (is_d ≡ true → e ≡ cross kinds q) → (is_e ≡ true → o ≡ None) → (is_e ≡ true → d ≡ cross kinds q) → (is_d ≡ false → is_e ≡ false → o ≡ Some (unmarked (cross kinds q))) → option_or o (cond is_d (Some (unmarked e)) (cond is_e (Some (unmarked d)) None)) ≡ Some (unmarked (cross kinds q))
+  join_told d e q o true is_e free_d at_d free_e at_e other = rw (free_d refl) (ap (λ (p : ℕ × ℕ). Some (unmarked p)) (at_d refl))
+  join_told d e q o false true free_d at_d free_e at_e other = rw (free_e refl) (ap (λ (p : ℕ × ℕ). Some (unmarked p)) (at_e refl))
   join_told d e q o false false free_d at_d free_e at_e other = rw (other refl refl) refl
 
   -- a side that stands before its partner
@@ -126,7 +130,7 @@ module _ (kinds : List TileKind) (valid : IsValid kinds) where
       j.free (cross kinds (k, s)) ahead (subst (λ (x : ℕ × ℕ). is_before x (k, s) ≡ false) (sym (valid.involution (k, s) of_type)) (not_self (k, s)))
 
   abbrev the_join : ℕ → ℕ → Entry
-  the_join k s = Join k s (cross kinds (k, s)).0 (cross kinds (k, s)).1
+  the_join k s = Join k s (cross kinds (k, s)).0 (cross kinds (k, s)).1 false
 
   joined_here : (done : List Entry) (k s : ℕ) → Joins done (k, s) → IsType kinds (k, s) → is_before (cross kinds (k, s)) (k, s) ≡ false → Joins (done ++ the_join k s ∷ []) (k, s + 1)
   joined_here done k s j of_type ahead =
@@ -165,7 +169,7 @@ module _ (kinds : List TileKind) (valid : IsValid kinds) where
               | inr fails ↦ fails
             ] in
             partner-push done (the_join k s) q
-            ∙ ap (λ (o : Option (ℕ × ℕ)). option_or o (partner_in (the_join k s) q)) (j.free q (not_before q k s first) (not_before (cross kinds q) k s second))
+            ∙ ap (λ (o : Option (ℕ × ℕ × Bool)). option_or o (partner_in (the_join k s) q)) (j.free q (not_before q k s first) (not_before (cross kinds q) k s second))
             ∙ rw (not_d, not_e) refl;
         ungiven = λ q. valence-push done (the_join k s) q ∙ ap (λ (o : Option ℕ). option_or o None) (j.ungiven q);
       }
@@ -184,7 +188,7 @@ module _ (kinds : List TileKind) (valid : IsValid kinds) where
           ),
           next.good,
         );
-        small = ((kind_byte k of_type.0, residue_byte (k, s) of_type, kind_byte (cross kinds (k, s)).0 e_type.0, residue_byte (cross kinds (k, s)) e_type), next.small);
+        small = ((kind_byte k of_type.0, residue_byte (k, s) of_type, kind_byte (cross kinds (k, s)).0 e_type.0, residue_byte (cross kinds (k, s)) e_type, refl), next.small);
         joins = subst (λ (l : List Entry). Joins l (k, n)) (append_assoc done (the_join k s ∷ []) rest) next.joins;
       }
 
@@ -199,4 +203,4 @@ module _ (kinds : List TileKind) (valid : IsValid kinds) where
       let at_next : (i : ℕ) → i < length ps → IsType kinds (k, s + 1 + i) × (get_or ps i (0, 0) ≡ cross kinds (k, s + 1 + i)) = λ i lt. let e : s + suc i ≡ s + 1 + i = omega arith in rw e at (at (suc i) (omega arith)) in
       let is : p ≡ cross kinds (k, s) = here.1 in
       let done_with : Joined done ((if is_before (cross kinds (k, s)) (k, s) then [] else the_join k s ∷ []) ++ partner_entries k (s + 1) ps) (k, s + 1 + length ps) = partner_step done k s (s + 1 + length ps) (partner_entries k (s + 1) ps) (is_before (cross kinds (k, s)) (k, s)) refl j here.0 (λ more next. partners_good k (s + 1) ps more next at_next) in
-      subst (λ (x : ℕ × ℕ). Joined done ((if is_before x (k, s) then [] else Join k s x.0 x.1 ∷ []) ++ partner_entries k (s + 1) ps) (k, s + suc (length ps))) (sym is) (rw n at done_with)
+      subst (λ (x : ℕ × ℕ). Joined done ((if is_before x (k, s) then [] else Join k s x.0 x.1 false ∷ []) ++ partner_entries k (s + 1) ps) (k, s + suc (length ps))) (sym is) (rw n at done_with)

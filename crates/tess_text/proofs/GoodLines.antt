@@ -7,9 +7,11 @@ use Rattle.std.proofs.Math.Seq.{get_or-append_seam}
 use Rattle.std.proofs.lemmas.Bool.{cases_lt}
 use Rattle.tess_text.specs.declared.entry.Entry.{Entry}
 use Rattle.tess_text.specs.FileLines.{is_nonempty}
-use Rattle.tess_text.specs.Grammar.{entry, entries, has_begun, head, IsGoodEntry, IsGoodLine, IsGoodEnd, IsGoodAt}
-use Rattle.tess_text.proofs.Reading.{begun-push, entries_some}
-use Rattle.tess_text.proofs.Spaced.{AllSmall, entry_words, entry_of_words}
+use Rattle.tess_text.specs.declared.version.Version.{Version}
+use Rattle.tess_text.specs.declared.version.Version.TheVariants.{One}
+use Rattle.tess_text.specs.Grammar.{entry, entries, has_begun, head, version_of, IsAllowed, IsGoodEntry, IsGoodLine, IsGoodEnd, IsGoodAt}
+use Rattle.tess_text.proofs.Reading.{begun-push, entries_some, version_kept}
+use Rattle.tess_text.proofs.Spaced.{AllSmall, allowed_of, entry_words, entry_of_words}
 
 -- each entry is good after those done and those before it
 abbrev pub AllGood : List Entry → List Entry → Type 0
@@ -36,29 +38,29 @@ good_until lines n earlier here i lt = elim (cases_lt i n) [
   | inr last ↦ let e : n ≡ i = omega arith in subst (λ (j : ℕ). IsGoodAt lines j) e here
 ]
 
-good_from : (lines before : List (List (List ℕ))) (es : List Entry) → lines ≡ before ++ map entry_words es → ((i : ℕ) → i < length before → IsGoodAt lines i) → has_begun before ≡ true → AllGood (entries before) es → AllSmall es → (i : ℕ) → i < length lines → IsGoodAt lines i
-good_from lines before [] is earlier begun good small i lt = earlier i (omega (arith, ap (λ (l : List (List (List ℕ))). length l) is, length-append before []))
-good_from lines before (e ∷ es) is earlier begun good small i lt =
+good_from : (lines before : List (List (List ℕ))) (es : List Entry) → lines ≡ before ++ map entry_words es → ((i : ℕ) → i < length before → IsGoodAt lines i) → has_begun before ≡ true → version_of before ≡ One → AllGood (entries before) es → AllSmall es → (i : ℕ) → i < length lines → IsGoodAt lines i
+good_from lines before [] is earlier begun one good small i lt = earlier i (omega (arith, ap (λ (l : List (List (List ℕ))). length l) is, length-append before []))
+good_from lines before (e ∷ es) is earlier begun one good small i lt =
     let line = entry_words e in
     let says : entry line ≡ Some e = entry_of_words e small.0 in
-    let here : IsGoodAt lines (length before) = line_at lines before (map entry_words es) line is (record { first = λ none some. absurd (cc (none, begun)); later = λ yes some. (e, says, good.0) }) in
+    let here : IsGoodAt lines (length before) = line_at lines before (map entry_words es) line is (record { first = λ none some. absurd (cc (none, begun)); later = λ yes some. (e, says, good.0, subst (λ (v : Version). IsAllowed v e) (sym one) (allowed_of e small.0)) }) in
     let longer : length (before ++ line ∷ []) ≡ suc (length before) = omega (arith, length-append before (line ∷ [])) in
     let begun_next : has_begun (before ++ line ∷ []) ≡ true = begun-push before line ∙ ap (λ (b : Bool). b || is_nonempty line) begun in
     let good_next : AllGood (entries (before ++ line ∷ [])) es = subst (λ (l : List Entry). AllGood l es) (sym (entries_some before line e says)) good.1 in
     good_from lines (before ++ line ∷ []) es (is ∙ sym (append_assoc before (line ∷ []) (map entry_words es)))
-    (λ j small_j. good_until lines (length before) earlier here j (omega (arith, longer))) begun_next good_next small.1 i lt
+    (λ j small_j. good_until lines (length before) earlier here j (omega (arith, longer))) begun_next (version_kept before line begun ∙ one) good_next small.1 i lt
 
 -- what the lines of entries say
-pub entries_said : (es : List Entry) → AllSmall es → entries (head ∷ map entry_words es) ≡ es
+pub entries_said : (es : List Entry) → AllSmall es → entries (head One ∷ map entry_words es) ≡ es
 entries_said [] small = refl
 entries_said (e ∷ es) small = ap (λ (o : Option Entry). cons_option o (entries (map entry_words es))) (entry_of_words e small.0) ∙ ap (λ (l : List Entry). e ∷ l) (entries_said es small.1)
 
 -- behind the head
-pub good_lines : (es : List Entry) → AllSmall es → AllGood [] es → IsGoodEnd (head ∷ map entry_words es) → (i : ℕ) → i ≤ length (head ∷ map entry_words es) → IsGoodAt (head ∷ map entry_words es) i
+pub good_lines : (es : List Entry) → AllSmall es → AllGood [] es → IsGoodEnd (head One ∷ map entry_words es) → (i : ℕ) → i ≤ length (head One ∷ map entry_words es) → IsGoodAt (head One ∷ map entry_words es) i
 good_lines es small good end i le =
-    let lines = head ∷ map entry_words es in
-    let first : IsGoodAt lines 0 = line_at lines [] (map entry_words es) head refl (record { first = λ none some. refl; later = λ yes some. absurd (cc) }) in
+    let lines = head One ∷ map entry_words es in
+    let first : IsGoodAt lines 0 = line_at lines [] (map entry_words es) (head One) refl (record { first = λ none some. (One, refl); later = λ yes some. absurd (cc) }) in
     elim (cases_lt i (length lines)) [
-      | inl lt ↦ good_from lines (head ∷ []) es refl (λ j small_j. let e : 0 ≡ j = omega arith in subst (λ (n : ℕ). IsGoodAt lines n) e first) refl good small i lt
+      | inl lt ↦ good_from lines (head One ∷ []) es refl (λ j small_j. let e : 0 ≡ j = omega arith in subst (λ (n : ℕ). IsGoodAt lines n) e first) refl refl good small i lt
       | inr last ↦ record { line = λ lt. absurd (omega arith); end = λ is. end }
     ]

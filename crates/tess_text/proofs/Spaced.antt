@@ -1,5 +1,5 @@
 -- The words of a line of the canonical text: each stands behind one space.
-use Rattle.std.proofs.Common.{◌≡◌, ℕ, suc, ◌+◌, ◌<◌, ◌≤◌, ◌^◌, true, false, List, [], ◌∷◌, ◌++◌, length, map, refl, ◌∙◌, ap, arith, append_assoc, codes, decimal, Some}
+use Rattle.std.proofs.Common.{◌≡◌, ℕ, suc, ◌+◌, ◌<◌, ◌≤◌, ◌^◌, Bool, true, false, List, [], ◌∷◌, ◌++◌, length, map, refl, ◌∙◌, ap, arith, append_assoc, codes, decimal, Some}
 use Rattle.std.specs.Prelude.{◌==◌, filter}
 use Rattle.std.specs.List.{position_or_len, slice_split, onto_first}
 use Rattle.std.specs.Char.{digit_value}
@@ -12,8 +12,9 @@ use Rattle.std.proofs.lemmas.Bool.Decides.{nat_tests}
 use Rattle.tess_text.specs.declared.entry.Entry.{Entry}
 use Rattle.tess_text.specs.declared.entry.Entry.TheVariants.{Kind, Join, Corner}
 use Rattle.tess_text.specs.FileLines.{lines, content, is_separator, is_nonempty, words, word_lines}
-use Rattle.tess_text.specs.Grammar.{small_number, entry}
-use Rattle.tess_text.specs.Text.{numbers_text, entry_text, entries_text}
+use Rattle.tess_text.specs.declared.version.Version.TheVariants.{One}
+use Rattle.tess_text.specs.Grammar.{small_number, entry, IsAllowed}
+use Rattle.tess_text.specs.Text.{join_word, numbers_text, entry_text, entries_text}
 use Rattle.tess_text.proofs.Numbers.{number_some, word_some}
 
 -- letters and digits: all stand above # among the bytes
@@ -118,25 +119,32 @@ number-decimal n small =
     let is = number_some (decimal n) n (decimal_nonempty n wide) (omega arith) digits value in
     word_some (decimal n) n is (omega arith)
 
--- each number of the entry is a byte
+-- what the canonical text says: each number of the entry is a byte, and no join is mirrored
 abbrev pub IsSmall : Entry → Type 0
 IsSmall (Kind k sides repeat) = (k < 2 ^ 8) × (sides < 2 ^ 8) × (repeat < 2 ^ 8)
-IsSmall (Join k s k2 s2) = (k < 2 ^ 8) × (s < 2 ^ 8) × (k2 < 2 ^ 8) × (s2 < 2 ^ 8)
+IsSmall (Join k s k2 s2 mark) = (k < 2 ^ 8) × (s < 2 ^ 8) × (k2 < 2 ^ 8) × (s2 < 2 ^ 8) × (mark ≡ false)
 IsSmall (Corner k s v) = (k < 2 ^ 8) × (s < 2 ^ 8) × (v < 2 ^ 8)
 
 abbrev pub AllSmall : List Entry → Type 0
 AllSmall [] = Unit {0}
 AllSmall (e ∷ es) = IsSmall e × AllSmall es
 
+-- version 1 allows it
+pub allowed_of : (e : Entry) → IsSmall e → IsAllowed One e
+allowed_of (Kind k sides repeat) small = tt
+allowed_of (Join k s k2 s2 mark) small = small.4
+allowed_of (Corner k s v) small = tt
+
 -- the words of an entry
 abbrev pub entry_words : Entry → List (List ℕ)
 entry_words (Kind k sides repeat) = codes "kind" ∷ decimal k ∷ decimal sides ∷ decimal repeat ∷ []
-entry_words (Join k s k2 s2) = codes "join" ∷ decimal k ∷ decimal s ∷ decimal k2 ∷ decimal s2 ∷ []
+entry_words (Join k s k2 s2 mark) = join_word mark ∷ decimal k ∷ decimal s ∷ decimal k2 ∷ decimal s2 ∷ []
 entry_words (Corner k s v) = codes "corner" ∷ decimal k ∷ decimal s ∷ decimal v ∷ []
 
 pub entry_of_words : (e : Entry) → IsSmall e → entry (entry_words e) ≡ Some e
 entry_of_words (Kind k sides repeat) small = rw (number-decimal k small.0, number-decimal sides small.1, number-decimal repeat small.2) refl
-entry_of_words (Join k s k2 s2) small = rw (number-decimal k small.0, number-decimal s small.1, number-decimal k2 small.2, number-decimal s2 small.3) refl
+entry_of_words (Join k s k2 s2 false) small = rw (number-decimal k small.0, number-decimal s small.1, number-decimal k2 small.2, number-decimal s2 small.3) refl
+entry_of_words (Join k s k2 s2 true) small = absurd (cc small.4)
 entry_of_words (Corner k s v) small = rw (number-decimal k small.0, number-decimal s small.1, number-decimal v small.2) refl
 
 numbers_spaced : (ns : List ℕ) (tail : List ℕ) → numbers_text ns ++ tail ≡ spaced (map (λ n. decimal n) ns) (10 ∷ tail)
@@ -146,8 +154,9 @@ numbers_spaced (n ∷ ns) tail = ap (λ (l : List ℕ). 32 ∷ l) (append_assoc 
 kind_word : IsWord (codes "kind")
 kind_word = (omega arith, (omega arith, (omega arith, (omega arith, (omega arith, tt)))))
 
-join_word : IsWord (codes "join")
-join_word = (omega arith, (omega arith, (omega arith, (omega arith, (omega arith, tt)))))
+word_of_join : (mark : Bool) → IsWord (join_word mark)
+word_of_join false = (omega arith, (omega arith, (omega arith, (omega arith, (omega arith, tt)))))
+word_of_join true = (omega arith, (omega arith, (omega arith, (omega arith, (omega arith, (omega arith, (omega arith, tt)))))))
 
 corner_word : IsWord (codes "corner")
 corner_word = (omega arith, (omega arith, (omega arith, (omega arith, (omega arith, (omega arith, (omega arith, tt)))))))
@@ -157,9 +166,10 @@ pub entry_line : (e : Entry) (tail : List ℕ) → IsSmall e → word_lines (ent
 entry_line (Kind k sides repeat) tail small =
     ap (λ (l : List ℕ). word_lines (codes "kind" ++ l)) (numbers_spaced (k ∷ sides ∷ repeat ∷ []) tail)
     ∙ word_line (codes "kind") (decimal k ∷ decimal sides ∷ decimal repeat ∷ []) tail kind_word (decimal_word k small.0, (decimal_word sides small.1, (decimal_word repeat small.2, tt)))
-entry_line (Join k s k2 s2) tail small =
-    ap (λ (l : List ℕ). word_lines (codes "join" ++ l)) (numbers_spaced (k ∷ s ∷ k2 ∷ s2 ∷ []) tail)
-    ∙ word_line (codes "join") (decimal k ∷ decimal s ∷ decimal k2 ∷ decimal s2 ∷ []) tail join_word (decimal_word k small.0, (decimal_word s small.1, (decimal_word k2 small.2, (decimal_word s2 small.3, tt))))
+entry_line (Join k s k2 s2 mark) tail small =
+    ap (λ (l : List ℕ). word_lines l) (append_assoc (join_word mark) (numbers_text (k ∷ s ∷ k2 ∷ s2 ∷ [])) tail)
+    ∙ ap (λ (l : List ℕ). word_lines (join_word mark ++ l)) (numbers_spaced (k ∷ s ∷ k2 ∷ s2 ∷ []) tail)
+    ∙ word_line (join_word mark) (decimal k ∷ decimal s ∷ decimal k2 ∷ decimal s2 ∷ []) tail (word_of_join mark) (decimal_word k small.0, (decimal_word s small.1, (decimal_word k2 small.2, (decimal_word s2 small.3, tt))))
 entry_line (Corner k s v) tail small =
     ap (λ (l : List ℕ). word_lines (codes "corner" ++ l)) (numbers_spaced (k ∷ s ∷ v ∷ []) tail)
     ∙ word_line (codes "corner") (decimal k ∷ decimal s ∷ decimal v ∷ []) tail corner_word (decimal_word k small.0, (decimal_word s small.1, (decimal_word v small.2, tt)))

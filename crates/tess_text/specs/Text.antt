@@ -1,5 +1,5 @@
--- The canonical text of a tessellation: the head, and then a line for each entry.
-use Rattle.std.specs.Prelude.{ℕ, ◌+◌, Bool, ◌==◌, ◌||◌, ◌&&◌, nat_lt, if◌then◌else◌, List, [], ◌∷◌, ◌++◌, codes, decimal}
+-- The canonical text of a tessellation, of version 1: the head, and then a line for each entry.
+use Rattle.std.specs.Prelude.{ℕ, ◌+◌, Bool, true, false, ◌==◌, ◌||◌, ◌&&◌, nat_lt, if◌then◌else◌, List, [], ◌∷◌, ◌++◌, codes, decimal}
 use Rattle.tile_model.specs.Tessellations.{TileKind}
 use Rattle.tess_text.specs.declared.entry.Entry.{Entry}
 use Rattle.tess_text.specs.declared.entry.Entry.TheVariants.{Kind, Join, Corner}
@@ -9,10 +9,15 @@ abbrev pub numbers_text : List ℕ → List ℕ
 numbers_text [] = 10 ∷ []
 numbers_text (n ∷ ns) = 32 ∷ (decimal n ++ numbers_text ns)
 
+-- the first word of a join
+abbrev pub join_word : Bool → List ℕ
+join_word false = codes "join"
+join_word true = codes "mirror"
+
 -- the line of an entry
 abbrev pub entry_text : Entry → List ℕ
 entry_text (Kind k sides repeat) = codes "kind" ++ numbers_text (k ∷ sides ∷ repeat ∷ [])
-entry_text (Join k s k2 s2) = codes "join" ++ numbers_text (k ∷ s ∷ k2 ∷ s2 ∷ [])
+entry_text (Join k s k2 s2 mark) = join_word mark ++ numbers_text (k ∷ s ∷ k2 ∷ s2 ∷ [])
 entry_text (Corner k s v) = codes "corner" ++ numbers_text (k ∷ s ∷ v ∷ [])
 
 -- the lines of all entries
@@ -33,7 +38,7 @@ is_before d e = nat_lt d.0 e.0 || ((d.0 == e.0) && nat_lt d.1 e.1)
 abbrev pub partner_entries : ℕ → ℕ → List (ℕ × ℕ) → List Entry
 partner_entries k s [] = []
 partner_entries k s (p ∷ ps) =
-    (if is_before p (k, s) then [] else Join k s p.0 p.1 ∷ []) ++ partner_entries k (s + 1) ps
+    (if is_before p (k, s) then [] else Join k s p.0 p.1 false ∷ []) ++ partner_entries k (s + 1) ps
 
 -- the joins of all kinds, the first of which has number k
 abbrev pub join_entries : ℕ → List TileKind → List Entry

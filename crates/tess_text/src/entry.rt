@@ -20,6 +20,7 @@ pub enum Entry {
         residue: u8,
         other: u8,
         at: u8,
+        mirrored: bool,
     },
     Corner {
         kind: u8,
@@ -90,8 +91,8 @@ fn kind_entry(fields: &[u8]) -> Option<Entry>
     })
 }
 
-fn join_entry(fields: &[u8]) -> Option<Entry>
-    ensures { result ≡ join_entry (map small_number (words fields.now)) }
+fn join_entry(mirrored: bool, fields: &[u8]) -> Option<Entry>
+    ensures { result ≡ join_entry mirrored (map small_number (words fields.now)) }
 {
     let (kind, residue, other, at) = four_numbers(fields)?;
     Some(Entry::Join {
@@ -99,6 +100,7 @@ fn join_entry(fields: &[u8]) -> Option<Entry>
         residue,
         other,
         at,
+        mirrored,
     })
 }
 
@@ -120,7 +122,9 @@ pub fn read_entry(word: &[u8], fields: &[u8]) -> Option<Entry>
     if word == b"kind".as_slice() {
         kind_entry(fields)
     } else if word == b"join".as_slice() {
-        join_entry(fields)
+        join_entry(false, fields)
+    } else if word == b"mirror".as_slice() {
+        join_entry(true, fields)
     } else if word == b"corner".as_slice() {
         corner_entry(fields)
     } else {

@@ -1,4 +1,4 @@
-//! Reads and prints the text of a tessellation.
+//! Reads the text of a tessellation, of either version, and prints it in version 1.
 #![tactic(auto)]
 
 mod entry;
@@ -7,8 +7,7 @@ mod print;
 mod read;
 mod scan;
 mod tables;
-#[cfg(test)]
-mod tests;
+mod version;
 
 pub use fault::TessFault;
 pub use print::print_tess;

@@ -2,7 +2,7 @@
 ghost use Rattle.std.specs.Prelude.{◌≡◌, ◌++◌, ◌∷◌, ◌<◌, ◌≤◌, ℕ, List, length, decimal, IfOk, OnOk};
 ghost use Rattle.tile_model.specs.Tessellations.{TileKind, kind_at};
 ghost use Rattle.tess_text.specs.Spelling.{IsSpelling};
-ghost use Rattle.tess_text.specs.Text.{tess_text, numbers_text, entry_text, entries_text, all_entries, kind_entries, partner_entries, join_entries, valence_entries, corner_entries};
+ghost use Rattle.tess_text.specs.Text.{tess_text, join_word, numbers_text, entry_text, entries_text, all_entries, kind_entries, partner_entries, join_entries, valence_entries, corner_entries};
 
 use crate::entry::Entry;
 use itoa::Buffer;
@@ -27,6 +27,16 @@ fn push_numbers(out: &mut Vec<u8>, numbers: &[u8]) -> Result<(), AllocError>
     Ok(())
 }
 
+fn push_join_word(out: &mut Vec<u8>, mirrored: bool) -> Result<(), AllocError>
+    ensures { OnOk result (out.new.items ≡ out.old.items ++ join_word mirrored) }
+{
+    if mirrored {
+        out.extend_from_slice(b"mirror")
+    } else {
+        out.extend_from_slice(b"join")
+    }
+}
+
 fn push_entry(out: &mut Vec<u8>, entry: Entry) -> Result<(), AllocError>
     ensures { OnOk result (out.new.items ≡ out.old.items ++ entry_text entry) }
 {
@@ -44,8 +54,9 @@ fn push_entry(out: &mut Vec<u8>, entry: Entry) -> Result<(), AllocError>
             residue,
             other,
             at,
+            mirrored,
         } => {
-            out.extend_from_slice(b"join")?;
+            push_join_word(out, mirrored)?;
             push_numbers(out, &[kind, residue, other, at])
         }
         Entry::Corner {
@@ -90,6 +101,7 @@ fn push_partners(out: &mut Vec<u8>, k: u8, partner: &[(u8, u8)]) -> Result<(), A
                 residue,
                 other,
                 at,
+                mirrored: false,
             };
             push_entry(out, entry)?;
         }

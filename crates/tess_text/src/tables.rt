@@ -6,9 +6,9 @@ ghost use Rattle.tess_text.specs.Tables.{Hold, IsFull, IsUnjoinedAt, IsUngivenAt
 ghost use Rattle.tess_text.specs.declared.entry.Entry.{Entry};
 
 use crate::entry::Entry;
+use handed_kinds::HandKind;
 use std::alloc::{AllocError, Global};
 use std::marker::Model;
-use tile_kinds::Kind;
 
 /// What has been said for each residue, if something has been for all.
 fn all_said<T: Copy>(alloc: Global, said: &[Option<T>]) -> Result<Option<Vec<T>>, AllocError>
@@ -31,7 +31,7 @@ fn all_said<T: Copy>(alloc: Global, said: &[Option<T>]) -> Result<Option<Vec<T>>
 struct Table {
     sides: u8,
     repeat: u8,
-    partner: Vec<Option<(u8, u8)>>,
+    partner: Vec<Option<(u8, u8, bool)>>,
     valence: Vec<Option<u8>>,
 }
 
@@ -50,7 +50,7 @@ impl Model for Table {
 
 impl Table {
     /// The kind of this table, if nothing is missing.
-    fn finish(&self, alloc: Global) -> Result<Option<Kind>, AllocError>
+    fn finish(&self, alloc: Global) -> Result<Option<HandKind>, AllocError>
         ensures { IfOk result
             (λ kind. MatchOption kind (IsFull self.now → ⊥) (λ kind. table_of kind ≡ self.now)) }
     {
@@ -60,7 +60,7 @@ impl Table {
         let Some(valence) = all_said(alloc, &self.valence)? else {
             return Ok(None);
         };
-        Ok(Some(Kind {
+        Ok(Some(HandKind {
             sides: self.sides,
             repeat: self.repeat,
             partner,
@@ -142,7 +142,7 @@ impl Tables {
         }
     }
 
-    fn set_partner(&mut self, side: (u8, u8), partner: (u8, u8))
+    fn set_partner(&mut self, side: (u8, u8), partner: (u8, u8, bool))
         requires kind { side.0 < length self.old }
         requires residue { side.1 < length (table_at self.old side.0).partner }
         ensures { self.new ≡ put_partner self.old side partner }
@@ -158,17 +158,19 @@ impl Tables {
         self.kinds[side.0 as usize].valence[side.1 as usize] = Some(valence);
     }
 
-    /// Joins two sides. The answer is whether both are there and neither has been joined.
-    fn join(&mut self, side: (u8, u8), other: (u8, u8)) -> bool
+    /// Joins two sides, with a mark. The answer is whether both are there and neither has been
+    /// joined.
+    fn join(&mut self, side: (u8, u8), other: (u8, u8), mark: bool) -> bool
         ensures good { IsTrue result ↔ (IsUnjoinedAt self.old side × IsUnjoinedAt self.old other) }
         ensures joined { IsTrue result
-            → self.new ≡ put_partner (put_partner self.old side other) other side }
+            → self.new ≡ put_partner (put_partner self.old side (other.0, other.1, mark))
+            other (side.0, side.1, mark) }
     {
         if !self.is_unjoined(side) || !self.is_unjoined(other) {
             return false;
         }
-        self.set_partner(side, other);
-        self.set_partner(other, side);
+        self.set_partner(side, (other.0, other.1, mark));
+        self.set_partner(other, (side.0, side.1, mark));
         true
     }
 
@@ -208,7 +210,8 @@ impl Tables {
                 residue,
                 other,
                 at,
-            } => Ok(self.join((kind, residue), (other, at))),
+                mirrored,
+            } => Ok(self.join((kind, residue), (other, at), mirrored)),
             Entry::Corner {
                 kind,
                 residue,
@@ -218,7 +221,7 @@ impl Tables {
     }
 
     /// The kinds of these tables, if nothing is missing.
-    pub fn finish(&self, alloc: Global) -> Result<Option<Vec<Kind>>, AllocError>
+    pub fn finish(&self, alloc: Global) -> Result<Option<Vec<HandKind>>, AllocError>
         ensures { IfOk result
             (λ kinds. MatchOption kinds (All IsFull self.now → ⊥)
             (λ kinds. map table_of kinds.items ≡ self.now)) }

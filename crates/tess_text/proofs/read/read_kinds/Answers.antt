@@ -1,6 +1,6 @@
 use Rattle.std.proofs.Common.{take}
 use Rattle.tess_text.specs.FileLines.{word_lines}
-use Rattle.tess_text.proofs.Reading.{stops, goes_on, read_all, end_spells, end_stops}
+use Rattle.tess_text.proofs.Reading.{stops, goes_on, read_all, end_says, end_stops}
 use Rattle.tess_text.proofs.read.read_kinds.Goals as goal
 
 pub returns-then-not-branch : goal.returns-then-not-branch
@@ -17,12 +17,12 @@ loop-line-preserved c =
 
 pub returns-in-Some-2 : goal.returns-in-Some-2
 returns-in-Some-2 c =
-    let answer = c.in_ok-kinds.ensures (word_lines c.args.bytes.now) (read_all _ _ c.loop-line.count _ _ c.loop-line.invariant c.in_default.ensures.lines) in
+    let answer = c.in_ok-said.ensures (word_lines c.args.bytes.now) (read_all _ _ c.loop-line.count _ _ c.loop-line.invariant c.in_default.ensures.lines) in
     let good = rw c.in-Some-2.is at answer in
-    end_spells _ _ c.loop-line.count _ _ c.loop-line.invariant _ c.in_default.ensures.lines good
+    end_says _ _ c.loop-line.count _ _ c.loop-line.invariant _ _ c.in_default.ensures.lines good
 
 pub returns : goal.returns
 returns c =
-    let answer = c.in_ok-kinds.ensures (word_lines c.args.bytes.now) (read_all _ _ c.loop-line.count _ _ c.loop-line.invariant c.in_default.ensures.lines) in
+    let answer = c.in_ok-said.ensures (word_lines c.args.bytes.now) (read_all _ _ c.loop-line.count _ _ c.loop-line.invariant c.in_default.ensures.lines) in
     let bad = rw c.in-None.is at answer in
     end_stops _ _ c.loop-line.count _ _ c.loop-line.invariant c.in_default.ensures.lines bad

@@ -8,7 +8,7 @@ returns-in_ok-push-in-Kind c = λ es hold.
 
 pub returns-in-Join : goal.returns-in-Join
 returns-in-Join c = λ es hold.
-    entered_join c.args.self.now c.join.new.self es c.args.entry (c.in-Join.kind, c.in-Join.residue) (c.in-Join.other, c.in-Join.at) c.join.result c.in-Join.is c.join.ensures.good c.join.ensures.joined hold
+    entered_join c.args.self.now c.join.new.self es c.args.entry (c.in-Join.kind, c.in-Join.residue) (c.in-Join.other, c.in-Join.at) c.in-Join.mirrored c.join.result c.in-Join.is c.join.ensures.good c.join.ensures.joined hold
 
 pub returns-in-Corner : goal.returns-in-Corner
 returns-in-Corner c = λ es hold.
