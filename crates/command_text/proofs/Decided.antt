@@ -12,8 +12,8 @@ use Rattle.reply_model.specs.declared.Command.{Command}
 use Rattle.reply_model.specs.Histories.{most_walkers}
 use Rattle.reply_model.specs.declared.Command.TheVariants.{New, Go, At, Same, Level, Dist, Path}
 use Rattle.reply_model.specs.declared.Command.TheVariants.{Put, Get, Ring, Count}
-use Rattle.command_text.specs.CommandLines.{space, IsWalkerNumber, one_walker, two_walkers, walker_and_walk, walker_and_text, one_distance, word_of, operands_of, IsSpelling, SpellsNothing}
-use Rattle.command_text.specs.Words.{Lacks, IsInFront, AreToldBy, walker_alone, walkers, walker_with_walk, walker_with_text, distance_alone, TellNothing, verb_text, IsCommandOf, IsNoCommandOf}
+use Rattle.command_text.specs.CommandLines.{space, IsWalkerNumber, one_walker, two_walkers, walker_and_walk, walker_and_text, one_distance, verb_text, verb_of, operands_of, IsSpelling, SpellsNothing}
+use Rattle.command_text.specs.Words.{Lacks, IsInFront, AreToldBy, walker_alone, walkers, walker_with_walk, walker_with_text, distance_alone, TellNothing, IsCommandOf, IsNoCommandOf}
 use Rattle.command_text.specs.declared.command.Verb.{Verb}
 use Rattle.command_text.specs.declared.command.Verb.TheVariants.{New as NewVerb, Go as GoVerb, At as AtVerb, Same as SameVerb, Level as LevelVerb, Dist as DistVerb, Path as PathVerb}
 use Rattle.command_text.specs.declared.command.Verb.TheVariants.{Put as PutVerb, Get as GetVerb, Ring as RingVerb, Count as CountVerb}
@@ -269,12 +269,12 @@ module _ (law : (digits : List ℕ) (n : ℕ) → IsNumber digits n ↔ (number 
 
   by_shape :
       {X : Type 0} (verb : Verb) (bytes : List ℕ) (command : X → Command)
-      → ((x : X) → word_of (command x) ≡ verb_text verb)
+      → ((x : X) → verb_of (command x) ≡ verb)
       → ((x : X) × AreToldBy bytes (operands_of (command x))) ⊎ TellNothing bytes (form verb).shape
       → Told verb bytes
-  by_shape verb bytes command word (inl told) =
-      inl (command told.0, record { word = word told.0; told = told.1 })
-  by_shape verb bytes command word (inr none) = inr (no_command verb verb bytes refl none)
+  by_shape verb bytes command of_verb (inl told) =
+      inl (command told.0, record { of_verb = of_verb told.0; told = told.1 })
+  by_shape verb bytes command of_verb (inr none) = inr (no_command verb verb bytes refl none)
 
   by_verb : (verb : Verb) (bytes : List ℕ) → Told verb bytes
   by_verb NewVerb bytes = by_shape NewVerb bytes New (λ w. refl) (tell_walker bytes)

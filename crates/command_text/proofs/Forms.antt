@@ -6,8 +6,8 @@ use Rattle.tile_model.specs.declared.Letter.{Letter}
 use Rattle.reply_model.specs.declared.Command.{Command}
 use Rattle.reply_model.specs.declared.Command.TheVariants.{New, Go, At, Same, Level, Dist, Path}
 use Rattle.reply_model.specs.declared.Command.TheVariants.{Put, Get, Ring, Count}
-use Rattle.command_text.specs.CommandLines.{space, spaced, Operands, one_walker, two_walkers, walker_and_walk, walker_and_text, one_distance, word_of, operands_of, IsSpelling, SpellsNothing}
-use Rattle.command_text.specs.Words.{Lacks, AreToldBy, Shape, walker_alone, walkers, walker_with_walk, walker_with_text, distance_alone, shape_of, TellNothing, verb_text, IsCommandOf, IsNoCommandOf}
+use Rattle.command_text.specs.CommandLines.{space, spaced, Operands, one_walker, two_walkers, walker_and_walk, walker_and_text, one_distance, verb_text, verb_of, word_of, operands_of, IsSpelling, SpellsNothing}
+use Rattle.command_text.specs.Words.{Lacks, AreToldBy, Shape, walker_alone, walkers, walker_with_walk, walker_with_text, distance_alone, shape_of, TellNothing, IsCommandOf, IsNoCommandOf}
 use Rattle.command_text.specs.declared.command.Verb.{Verb}
 use Rattle.command_text.specs.declared.command.Verb.TheVariants.{New as NewVerb, Go as GoVerb, At as AtVerb, Same as SameVerb, Level as LevelVerb, Dist as DistVerb, Path as PathVerb}
 use Rattle.command_text.specs.declared.command.Verb.TheVariants.{Put as PutVerb, Get as GetVerb, Ring as RingVerb, Count as CountVerb}
@@ -54,32 +54,29 @@ form GetVerb = record { shape = walker_alone; make = of_walker Get }
 form RingVerb = record { shape = distance_alone; make = of_distance Ring }
 form CountVerb = record { shape = distance_alone; make = of_distance Count }
 
--- a verb of the command, whose row of the table says what the command looks like
-pub record HasVerb (c : Command) : Type 0 where
-  pub verb : Verb
-  pub word : word_of c ≡ verb_text verb
-  pub shape : (form verb).shape ≡ shape_of (operands_of c)
-  pub made : (form verb).make (operands_of c) ≡ Some c
+-- The row of the table for the command's verb says what the command looks like.
+pub record HasForm (c : Command) : Type 0 where
+  pub shape : (form (verb_of c)).shape ≡ shape_of (operands_of c)
+  pub made : (form (verb_of c)).make (operands_of c) ≡ Some c
 
-row :
-    {c : Command} (verb : Verb) → word_of c ≡ verb_text verb
-    → (form verb).shape ≡ shape_of (operands_of c) → (form verb).make (operands_of c) ≡ Some c
-    → HasVerb c
-row verb word shape made = record { verb = verb; word = word; shape = shape; made = made }
+abbrev row :
+    {c : Command} → (form (verb_of c)).shape ≡ shape_of (operands_of c)
+    → (form (verb_of c)).make (operands_of c) ≡ Some c → HasForm c
+row shape made = record { shape = shape; made = made }
 
 -- each command has a row of the table
-has_verb : (c : Command) → HasVerb c
-has_verb (New w) = row NewVerb refl refl refl
-has_verb (Go w walk) = row GoVerb refl refl refl
-has_verb (At w) = row AtVerb refl refl refl
-has_verb (Same w v) = row SameVerb refl refl refl
-has_verb (Level w) = row LevelVerb refl refl refl
-has_verb (Dist w v) = row DistVerb refl refl refl
-has_verb (Path w v) = row PathVerb refl refl refl
-has_verb (Put w text) = row PutVerb refl refl refl
-has_verb (Get w) = row GetVerb refl refl refl
-has_verb (Ring d) = row RingVerb refl refl refl
-has_verb (Count d) = row CountVerb refl refl refl
+has_form : (c : Command) → HasForm c
+has_form (New w) = row refl refl
+has_form (Go w walk) = row refl refl
+has_form (At w) = row refl refl
+has_form (Same w v) = row refl refl
+has_form (Level w) = row refl refl
+has_form (Dist w v) = row refl refl
+has_form (Path w v) = row refl refl
+has_form (Put w text) = row refl refl
+has_form (Get w) = row refl refl
+has_form (Ring d) = row refl refl
+has_form (Count d) = row refl refl
 
 -- the byte is another one than a space
 abbrev is_other : ℕ → Bool
@@ -143,14 +140,9 @@ one_verb v u same =
     sym (is_word v).found ∙ ap (λ (l : List ℕ). find l verbs) same ∙ (is_word u).found in
     cc found
 
--- the verb of a command is the one whose word its line begins with
-verb_is : (c : Command) (verb : Verb) → word_of c ≡ verb_text verb → (has_verb c).verb ≡ verb
-verb_is c verb is = one_verb (has_verb c).verb verb (sym (has_verb c).word ∙ is)
-
 -- no first word has a space
 lacks_space : (c : Command) → Lacks space (word_of c)
-lacks_space c =
-    subst (λ (l : List ℕ). Lacks space l) (sym (has_verb c).word) (is_word (has_verb c).verb).lacks
+lacks_space c = (is_word (verb_of c)).lacks
 
 -- the line of a command, cut behind its first word
 pub record IsParted (line : List ℕ) (c : Command) : Type 0 where
@@ -176,14 +168,14 @@ unique line c d is also =
     let same =
     one_split space (word_of c) (word_of d) p.rest q.rest (lacks_space c) (lacks_space d)
     (sym p.text ∙ q.text) in
-    let verb = verb_is c (has_verb d).verb (same.0 ∙ (has_verb d).word) in
+    let verb = one_verb (verb_of c) (verb_of d) same.0 in
     let shape =
-    sym (has_verb c).shape ∙ ap (λ (v : Verb). (form v).shape) verb ∙ (has_verb d).shape in
+    sym (has_form c).shape ∙ ap (λ (v : Verb). (form v).shape) verb ∙ (has_form d).shape in
     let told =
     one_told q.rest (operands_of c) (operands_of d)
     (subst (λ (l : List ℕ). AreToldBy l (operands_of c)) same.1 p.told) q.told shape in
     ap (the_command c)
-    (sym (has_verb c).made ∙ ap₂ (λ (v : Verb) (o : Operands). (form v).make o) verb told ∙ (has_verb d).made)
+    (sym (has_form c).made ∙ ap₂ (λ (v : Verb) (o : Operands). (form v).make o) verb told ∙ (has_form d).made)
 
 -- bytes that tell nothing of the shape of a verb tell no command of it
 pub no_command :
@@ -191,21 +183,21 @@ pub no_command :
     → IsNoCommandOf verb bytes
 no_command verb known bytes same none = λ c is.
     none (operands_of c)
-    (sym (has_verb c).shape ∙ ap (λ (v : Verb). (form v).shape) (verb_is c verb is.word ∙ same))
+    (sym (has_form c).shape ∙ ap (λ (v : Verb). (form v).shape) (is.of_verb ∙ same))
     is.told
 
 -- a first word, and behind it what the command is told
 pub spells :
     (line word rest : List ℕ) (verb : Verb) (c : Command) → line ≡ word ++ space ∷ rest
     → word ≡ verb_text verb → IsCommandOf verb rest c → IsSpelling line c
-spells line word rest verb c e is of_verb =
-    let told = of_verb.told in
+spells line word rest verb c e is of =
+    let told = of.told in
     record {
       words = told.words;
       told = told.told;
       text =
           e
-          ∙ ap₂ (λ (a b : List ℕ). a ++ space ∷ b) (is ∙ sym of_verb.word) told.text
+          ∙ ap₂ (λ (a b : List ℕ). a ++ space ∷ b) (is ∙ ap verb_text (sym of.of_verb)) told.text
           ∙ sym (behind_word (word_of c) told.told);
     }
 
@@ -221,7 +213,7 @@ module _ (line word rest : List ℕ) (e : line ≡ word ++ space ∷ rest) (lack
       let p = parts line c spelt in
       let same = begins c p in
       none c (record {
-        word = same.0 ∙ is;
+        of_verb = one_verb (verb_of c) verb (same.0 ∙ is);
         told = subst (λ (l : List ℕ). AreToldBy l (operands_of c)) same.1 p.told;
       })
 
@@ -229,7 +221,7 @@ module _ (line word rest : List ℕ) (e : line ≡ word ++ space ∷ rest) (lack
   pub unknown : ((verb : Verb) → word ≢ verb_text verb) → SpellsNothing line
   unknown none = λ c spelt.
       let same = begins c (parts line c spelt) in
-      none (has_verb c).verb (sym same.0 ∙ (has_verb c).word)
+      none (verb_of c) (sym same.0)
 
 -- one word alone
 pub one_word : (line : List ℕ) → Lacks space line → SpellsNothing line

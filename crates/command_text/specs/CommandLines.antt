@@ -10,6 +10,9 @@ use Rattle.reply_model.specs.declared.Command.TheVariants.{Put, Get, Ring, Count
 use Rattle.reply_model.specs.Histories.{most_walkers}
 use Rattle.tile_model.specs.WalkTexts.{walk_text}
 use Rattle.command_text.specs.declared.command.TheConstants.{LONGEST_LINE}
+use Rattle.command_text.specs.declared.command.Verb.{Verb}
+use Rattle.command_text.specs.declared.command.Verb.TheVariants.{New as NewVerb, Go as GoVerb, At as AtVerb, Same as SameVerb, Level as LevelVerb, Dist as DistVerb, Path as PathVerb}
+use Rattle.command_text.specs.declared.command.Verb.TheVariants.{Put as PutVerb, Get as GetVerb, Ring as RingVerb, Count as CountVerb}
 
 -- the most bytes of a line
 abbrev pub most_of_line : ℕ
@@ -58,19 +61,37 @@ pub data AreTold : Operands → List (List ℕ) → Type 0 where
   by_distance :
       (d : ℕ) (digits : List ℕ) → IsNumber digits d → AreTold (one_distance d) (digits ∷ [])
 
+-- the first word of the lines of a verb
+abbrev pub verb_text : Verb → List ℕ
+verb_text NewVerb = codes "new"
+verb_text GoVerb = codes "go"
+verb_text AtVerb = codes "at"
+verb_text SameVerb = codes "same"
+verb_text LevelVerb = codes "level"
+verb_text DistVerb = codes "dist"
+verb_text PathVerb = codes "path"
+verb_text PutVerb = codes "put"
+verb_text GetVerb = codes "get"
+verb_text RingVerb = codes "ring"
+verb_text CountVerb = codes "count"
+
+-- the verb of a command
+abbrev pub verb_of : Command → Verb
+verb_of (New w) = NewVerb
+verb_of (Go w walk) = GoVerb
+verb_of (At w) = AtVerb
+verb_of (Same w v) = SameVerb
+verb_of (Level w) = LevelVerb
+verb_of (Dist w v) = DistVerb
+verb_of (Path w v) = PathVerb
+verb_of (Put w text) = PutVerb
+verb_of (Get w) = GetVerb
+verb_of (Ring d) = RingVerb
+verb_of (Count d) = CountVerb
+
 -- the word that the line of a command begins with
 abbrev pub word_of : Command → List ℕ
-word_of (New w) = codes "new"
-word_of (Go w walk) = codes "go"
-word_of (At w) = codes "at"
-word_of (Same w v) = codes "same"
-word_of (Level w) = codes "level"
-word_of (Dist w v) = codes "dist"
-word_of (Path w v) = codes "path"
-word_of (Put w text) = codes "put"
-word_of (Get w) = codes "get"
-word_of (Ring d) = codes "ring"
-word_of (Count d) = codes "count"
+word_of c = verb_text (verb_of c)
 
 -- what the command is told behind it
 abbrev pub operands_of : Command → Operands

@@ -1,10 +1,9 @@
 -- The words that a line is cut into.
-use Rattle.std.specs.Prelude.{◌≡◌, ◌≢◌, ℕ, List, ◌∷◌, ◌++◌, codes}
+use Rattle.std.specs.Prelude.{◌≡◌, ◌≢◌, ℕ, List, ◌∷◌, ◌++◌}
 use Rattle.std.specs.List.{All}
 use Rattle.reply_model.specs.declared.Command.{Command}
-use Rattle.command_text.specs.CommandLines.{space, spaced, IsWalkerNumber, Operands, one_walker, two_walkers, walker_and_walk, walker_and_text, one_distance, AreTold, word_of, operands_of}
+use Rattle.command_text.specs.CommandLines.{space, spaced, IsWalkerNumber, Operands, one_walker, two_walkers, walker_and_walk, walker_and_text, one_distance, AreTold, verb_of, operands_of}
 use Rattle.command_text.specs.declared.command.Verb.{Verb}
-use Rattle.command_text.specs.declared.command.Verb.TheVariants.{New, Go, At, Same, Level, Dist, Path, Put, Get, Ring, Count}
 
 -- the byte is not among the bytes
 abbrev pub Lacks : ℕ → List ℕ → Type 0
@@ -42,23 +41,9 @@ abbrev pub TellNothing : List ℕ → Shape → Type 0
 TellNothing bytes shape =
     (operands : Operands) → shape_of operands ≡ shape → ¬ (AreToldBy bytes operands)
 
--- the first word of the lines of a verb
-abbrev pub verb_text : Verb → List ℕ
-verb_text New = codes "new"
-verb_text Go = codes "go"
-verb_text At = codes "at"
-verb_text Same = codes "same"
-verb_text Level = codes "level"
-verb_text Dist = codes "dist"
-verb_text Path = codes "path"
-verb_text Put = codes "put"
-verb_text Get = codes "get"
-verb_text Ring = codes "ring"
-verb_text Count = codes "count"
-
 -- The bytes behind the first word tell the command, whose verb this is.
 pub record IsCommandOf (verb : Verb) (bytes : List ℕ) (c : Command) : Type 0 where
-  pub word : word_of c ≡ verb_text verb
+  pub of_verb : verb_of c ≡ verb
   pub told : AreToldBy bytes (operands_of c)
 
 -- the bytes behind the first word tell no command of the verb

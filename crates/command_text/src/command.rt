@@ -2,8 +2,8 @@
 ghost use Rattle.std.specs.Prelude.{◌≡◌, ◌≢◌, ℕ, ◌<◌, ◌↔◌, List, length, IfOk, IfErr, IsErrOf, IfSome, IfNone};
 ghost use Rattle.tile_model.specs.declared.Letter.{Letter};
 ghost use Rattle.tile_model.specs.WalkTexts.{walk_text};
-ghost use Rattle.command_text.specs.CommandLines.{IsWalkerNumber, IsSpelling, SpellsNothing, one_walker, two_walkers, walker_and_walk, walker_and_text, one_distance, most_of_line};
-ghost use Rattle.command_text.specs.Words.{IsInFront, AreToldBy, TellNothing, walker_alone, walkers, walker_with_walk, walker_with_text, distance_alone, verb_text, IsCommandOf, IsNoCommandOf};
+ghost use Rattle.command_text.specs.CommandLines.{IsWalkerNumber, IsSpelling, SpellsNothing, one_walker, two_walkers, walker_and_walk, walker_and_text, one_distance, most_of_line, verb_text};
+ghost use Rattle.command_text.specs.Words.{IsInFront, AreToldBy, TellNothing, walker_alone, walkers, walker_with_walk, walker_with_text, distance_alone, IsCommandOf, IsNoCommandOf};
 ghost use Rattle.command_text.specs.declared.command.Verb.{Verb as VerbData};
 
 use crate::cutting::cut_at;
