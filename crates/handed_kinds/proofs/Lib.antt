@@ -3,6 +3,7 @@ pub mod Numbers
 pub mod Flat
 pub mod Valid
 pub mod FlatWalks
+pub mod FlatRelation
 pub mod Sized
 pub mod Refused
 pub mod OneFault

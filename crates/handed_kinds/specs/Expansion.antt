@@ -1,5 +1,5 @@
--- The expansion of handed kinds: twice as many plain kinds, of which kind 2k is kind k as it is seen
--- plain, and kind 2k + 1 as it is seen mirrored.
+-- The expansion of handed kinds: twice as many plain kinds, of which kind 2k is kind k as it is
+-- seen plain, and kind 2k + 1 as it is seen mirrored.
 use Rattle.std.specs.Prelude.{ℕ, ◌+◌, ◌-◌, ◌*◌, ◌/◌, ◌%◌, ◌==◌, List, length, map, Bool, true, false, nat_lt, ◌&&◌, if◌then◌else◌}
 use Rattle.std.specs.List.{range_with_len}
 use Rattle.tile_model.specs.Tessellations.{TileKind}

@@ -1,4 +1,5 @@
--- Which fault a list of handed kinds has: the first check that fails, at its least kind and residue.
+-- Which fault a list of handed kinds has: the first check that fails, at its least kind and
+-- residue.
 use Rattle.std.specs.Prelude.{◌≡◌, ℕ, ◌<◌, List, length}
 use Rattle.handed_kinds.specs.Handed.{HandedKind, handed_at, IsSide}
 use Rattle.handed_kinds.specs.HandedValidity.{HasCount, HasSides, HasRepeat, HasPartner, HasValence, IsInvolution, HasCorner}

@@ -1,5 +1,5 @@
--- When a list of handed kinds is a tessellation: seven points, each of all kinds and residues of the
--- list, in the order in which they are tried.
+-- When a list of handed kinds is a tessellation: seven points, each of all kinds and residues of
+-- the list, in the order in which they are tried.
 use Rattle.std.specs.Prelude.{◌≡◌, ℕ, ◌%◌, ◌<◌, ◌≤◌, Bool, true, false, List, length}
 use Rattle.handed_kinds.specs.Handed.{HandedKind, handed_at, IsSide, partner_at, valence_at, valence, around, around_times}
 

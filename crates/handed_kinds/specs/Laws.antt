@@ -4,10 +4,11 @@ use Rattle.tile_model.specs.declared.Letter.{Letter}
 use Rattle.tile_model.specs.Tessellations.{IsType, left as flat_left, right as flat_right, cross as flat_cross, sides as flat_sides, valence as flat_valence}
 use Rattle.tile_model.specs.Validity.{IsValid}
 use Rattle.tile_model.specs.Walks.{type_of}
-use Rattle.tile_model.specs.Relation.{IsLoop}
+use Rattle.tile_model.specs.Relation.{IsLoop, AreRelated}
 use Rattle.handed_kinds.specs.Handed.{HandedKind, IsHandedType, left, right, cross, sides, valence}
 use Rattle.handed_kinds.specs.HandedValidity.{IsHandedValid}
 use Rattle.handed_kinds.specs.HandedWalks.{handed_type, IsHandedLoop}
+use Rattle.handed_kinds.specs.HandedRelation.{AreHandedRelated}
 use Rattle.handed_kinds.specs.Expansion.{flat, expanded}
 
 -- Each type of the expansion is `flat` of one handed type, and of no other.
@@ -47,3 +48,10 @@ LoopsAreFlat =
     (hs : List HandedKind) → IsHandedValid hs → (t : ℕ × ℕ × Bool) → IsHandedType hs t
     → (j : ℕ) (loop : List Letter)
     → IsHandedLoop hs t j loop ↔ IsLoop (expanded hs) (flat hs t) j loop
+
+-- Walks from a handed type are related exactly where they are related from its `flat`.
+abbrev pub RelationIsFlat : Type 0
+RelationIsFlat =
+    (hs : List HandedKind) → IsHandedValid hs → (t : ℕ × ℕ × Bool) → IsHandedType hs t
+    → (u w : List Letter)
+    → AreHandedRelated hs t u w ↔ AreRelated (expanded hs) (flat hs t) u w

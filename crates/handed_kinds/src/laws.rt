@@ -1,15 +1,16 @@
 //! What the expansion is to the handed kinds. The functions do nothing: their contracts state laws
 //! that hold of all lists of handed kinds, types and walks.
 
-ghost use Rattle.handed_kinds.specs.Laws.{FlatIsOneToOne, OneValidity, MovesAreFlat, WalksAreFlat, LoopsAreFlat};
+ghost use Rattle.handed_kinds.specs.Laws.{FlatIsOneToOne, OneValidity, MovesAreFlat, WalksAreFlat, LoopsAreFlat, RelationIsFlat};
 
 /// Handed types and the types of the expansion are one to one, a list of handed kinds is valid
-/// exactly where its expansion is, and the moves, the measures, the walks and the loops of both are
-/// the same.
+/// exactly where its expansion is, and the moves, the measures, the walks, the loops and the related
+/// walks of both are the same.
 pub fn expansion_laws()
     ensures one_to_one { FlatIsOneToOne }
     ensures validity { OneValidity }
     ensures moves { MovesAreFlat }
     ensures walks { WalksAreFlat }
     ensures loops { LoopsAreFlat }
+    ensures related { RelationIsFlat }
 {}

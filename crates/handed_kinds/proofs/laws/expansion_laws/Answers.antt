@@ -3,6 +3,7 @@ use Rattle.handed_kinds.proofs.Numbers.{sides_is}
 use Rattle.handed_kinds.proofs.Valid.{valid_lists, expanded_valid, handed_valid}
 use Rattle.handed_kinds.proofs.FlatWalks.{walk_flat, loop_there, loop_back}
 use Rattle.std.proofs.Common.{sym}
+use Rattle.handed_kinds.proofs.FlatRelation.{related_there, related_back}
 use Rattle.handed_kinds.proofs.laws.expansion_laws.Goals as goal
 
 pub returns-clause-one_to_one : goal.returns-clause-one_to_one
@@ -29,3 +30,6 @@ returns-clause-walks c = walk_flat
 
 pub returns-clause-loops : goal.returns-clause-loops
 returns-clause-loops c = λ hs valid t h j loop. (loop_there hs valid t h j loop, loop_back hs valid t h j loop)
+
+pub returns-clause-related : goal.returns-clause-related
+returns-clause-related c = λ hs valid t h u w. (related_there hs valid t h u w, related_back hs valid t h u w)
