@@ -5,6 +5,7 @@ use std::alloc::Global;
 use std::test::Fail;
 use tess_text::{TessFault, print_tess, read_tess};
 use tile_kinds::{DartType, KindFault};
+use walk_words::{read_walk, type_of};
 
 // pentagons, four round each corner
 const PENTAGONS: &[u8] = b"tess 1\nkind 0 5 1\njoin 0 0 0 0\ncorner 0 0 4\n";
@@ -114,6 +115,36 @@ fn expands_version_two(rt: HostRuntime) -> Result<(), Fail> {
         residue: 3,
     };
     assert_eq!(rt; t.cross(side), across);
+    Ok(())
+}
+
+// The type that a walk from side 0 of kind 0 of a text leads to.
+fn end_of(alloc: Global, text: &[u8], letters: &[u8]) -> Option<DartType>
+    requires { length text.now < 2 ^ 32 - 1 }
+{
+    let t = read_tess(alloc, text).ok()?;
+    let walk = read_walk(alloc, letters).ok()?;
+    Some(type_of(&t, t.start(0), &walk))
+}
+
+#[test]
+fn walks_in_the_expansion(rt: HostRuntime) -> Result<(), Fail> {
+    let alloc = rt.alloc();
+    let cases = [
+        (MIRRORED, b"LX".as_slice(), 1, 0),
+        (MIRRORED, b"LXLX".as_slice(), 0, 0),
+        (FOUR_MIRRORS, b"LX".as_slice(), 1, 3),
+        (FOUR_MIRRORS, b"LXL".as_slice(), 1, 0),
+    ];
+    for (text, letters, kind, residue) in cases {
+        if text.len() > 1000 {
+            panic!(rt; "a long text");
+        }
+        assert_eq!(rt;
+            end_of(alloc, text, letters),
+            Some(DartType { kind, residue })
+        );
+    }
     Ok(())
 }
 
