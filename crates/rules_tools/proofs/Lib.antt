@@ -3,3 +3,8 @@ pub mod Refining
 pub mod Searching
 pub mod Numbered
 pub mod Reduced
+pub mod Joining
+pub mod Order
+pub mod Growing
+pub mod Told
+pub mod Keeping

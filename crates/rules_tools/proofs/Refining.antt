@@ -1,6 +1,6 @@
 -- Classes by keys: they are told apart where those before were, and where they are no more than those
 -- before they are stable.
-use Rattle.std.proofs.Common.{◌≡◌, ◌≢◌, ◌⊎◌, inl, inr, ℕ, zero, suc, ◌<◌, ◌≤◌, List, ◌∷◌, length, slice_index_or, replicate, refl, sym, ap, ap₂, ◌∙◌, subst, arith}
+use Rattle.std.proofs.Common.{◌≡◌, ◌≢◌, ◌⊎◌, inl, inr, ℕ, zero, suc, ◌<◌, ◌≤◌, List, [], ◌∷◌, length, slice_index_or, replicate, refl, sym, ap, ap₂, ◌∙◌, subst, arith}
 use Rattle.std.proofs.lemmas.Bool.{cases_eq, cases_lt}
 use Rattle.std.proofs.lemmas.List.{length-map}
 use Rattle.tile_model.proofs.Pigeonhole.{pigeonhole}
@@ -14,7 +14,7 @@ use Rattle.merge_model.specs.Telling.{AreTold, AreAlike}
 use Rattle.merge_laws.proofs.Copies.{mapped, plain_face, face_sides, face_child}
 use Rattle.merge_laws.proofs.Paths.{face_told, child_told, stable_alike}
 use Rattle.rules_tools.specs.Keys.{class_of, state_code, classed_state, key_of}
-use Rattle.rules_tools.specs.Classes.{AreApart, AreStable, AreByKey, Uses, IsSettling}
+use Rattle.rules_tools.specs.Classes.{AreApart, AreStable, AreByKey, AreFaces, Uses, IsSettling}
 use Rattle.rules_tools.proofs.Deciding.{same_states, OfStates, one_state, two_faces, two_children, states_cases}
 
 module _ (a : TreeAutomaton) (class : List ℕ) where
@@ -208,3 +208,10 @@ zero_class (suc n) (suc s) = zero_class n s
 
 pub zeros_apart : (kinds : List TileKind) (a : TreeAutomaton) (n : ℕ) → AreApart kinds a (replicate n 0)
 zeros_apart kinds a n s t ls lt d = absurd (d (zero_class n s ∙ sym (zero_class n t)))
+
+-- keys without classes are of faces
+pub are_faces : (a : TreeAutomaton) (faces : List ℕ) (count : ℕ) → AreByKey a [] faces count → AreFaces a faces
+are_faces a faces count keys s t ls lt = (
+  (λ e. key_state a [] s t ((keys.one s t ls lt).0 e)),
+  (λ e. (keys.one s t ls lt).1 (same_key a [] s t refl e)),
+)

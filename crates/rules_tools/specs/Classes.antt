@@ -51,3 +51,9 @@ pub record IsSettling
     pub apart :
         (kinds : List TileKind) → IsAccepted kinds a
         → AreApart kinds a start → AreApart kinds a before
+
+-- two states have one number exactly where they have one face
+abbrev pub AreFaces : TreeAutomaton → List ℕ → Type 0
+AreFaces a faces =
+    (s t : ℕ) → s < length a.states → t < length a.states
+    → (class_of faces s ≡ class_of faces t) ↔ (face_at a s ≡ face_at a t)
