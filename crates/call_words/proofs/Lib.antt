@@ -1,0 +1,4 @@
+pub mod Lists
+pub mod OneTask
+pub mod Reading
+pub mod Pairs
