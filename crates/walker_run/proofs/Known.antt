@@ -1,0 +1,185 @@
+-- From what the words came to to what is known of the run.
+use Rattle.std.proofs.Common.{◌≡◌, ◌<◌, ◌⊎◌, inl, inr, ℕ, Bool, IsTrue, List, Option, Some, None, length, refl, sym, ◌∙◌, ap, subst}
+use Rattle.tile_model.specs.Tessellations.{TileKind}
+use Rattle.tree_model.specs.Automata.{TreeAutomaton}
+use Rattle.tree_model.specs.Conditions.{IsAccepted}
+use Rattle.tess_text.specs.Spelling.{IsSpelling}
+use Rattle.rules_file.specs.Spelling.{rules_text}
+use Rattle.way_io.specs.Counts.{Rose}
+use Rattle.way_io.specs.Contents.{KeepsAll}
+use Rattle.call_words.specs.Tasks.{Task, TellType, CheckRules, RunSession, LearnRules, RulesFrom, Ask, HaveNoForm, AreNotOfRun, IsLearnForm, IsOut}
+use Rattle.call_words.proofs.OneTask.{one_task}
+use Rattle.walker_run.specs.declared.line.Role.{Role}
+use Rattle.walker_run.specs.declared.line.Line.{Line}
+use Rattle.walker_run.specs.declared.line.Line.TheVariants.{Accepted, Usage, FileFault, Closed, GaveUp, StoreFault, InputTooLong}
+use Rattle.walker_run.specs.Runs.{Call, Run, call_of}
+use Rattle.tile_model.specs.Validity.{IsValid}
+use Rattle.walker_run.specs.Held.{Outcome, Loaded, Refused, Lesson, IsTess, tess_too_long, tess_line, tess_kinds, tess_loaded, RulesOf, Holds, tess_limit}
+use Rattle.walker_run.specs.Due.{Contents, Row, no_form, by_task, Serves, Fetches, StoresFor, Stores, Makes, MaySay, due, unread, unstored}
+use Rattle.walker_run.specs.Promise.{IsClosedIn, IsGivenUpIn}
+use Rattle.walker_run.specs.Effects.{FilesSeen, End, Says, Opens, Lacks, ServesFor, FitsTask, fits_row, fits_unread, fits_unstored, fits_session, fits_nothing, StoresAs, MakesFor, MayStoreAt, IsSession, IsCarriedOut, IsDecided, formless, wordless, carried_out}
+use Rattle.walker_run.specs.Ending.{files_of, teacher_of}
+
+-- what a call may come to
+abbrev pub IsReached : Call → End → Type 0
+IsReached call (Says line) = MaySay call line
+IsReached call (Opens kinds a k) = Serves call kinds a k
+IsReached call Lacks = Unit {0}
+
+-- what is known of a run that came to this end, if the teacher answers this
+pub record Known (run : Run) (lesson : Lesson) (end : End) : Type 0 where
+  pub reached : IsTrue run.files_tell → IsReached (call_of run lesson) end
+  pub fetches : (role : Role) → end ≡ Says (FileFault role) → Rose run.before.failed_fetches run.after.failed_fetches
+  pub unwritten : end ≡ Says StoreFault → Rose run.before.failed_stores run.after.failed_stores
+  pub short : end ≡ Says InputTooLong → ⊥
+  pub stores : ((file : List ℕ) → IsOut run.words file → ⊥) → run.after.failed_stores ≡ run.before.failed_stores
+  pub others : IsTrue run.files_tell → (file : List ℕ) → (IsOut run.words file → ⊥) → run.after.contents file ≡ run.before.contents file
+  pub kept : IsTrue run.files_tell → KeepsAll run.before.contents run.after.contents ⊎ (Stores (call_of run lesson) × MayStoreAt end)
+  pub stored :
+      IsTrue run.files_tell → (tess out : List ℕ) (cells : ℕ) (kinds : List TileKind) (a : TreeAutomaton)
+      → IsLearnForm run.words tess cells (Some out) → Makes run.before.contents lesson tess cells kinds a
+      → end ≡ Says (Accepted (length a.states) (length a.corners)) → run.after.contents out ≡ Some (rules_text a)
+  pub closed : (n : ℕ) → end ≡ Says (Closed n) → IsClosedIn run n
+  pub gave_up : (n : ℕ) → end ≡ Says (GaveUp n) → IsGivenUpIn run n
+  pub ready : (kinds : List TileKind) (a : TreeAutomaton) (k : ℕ) → end ≡ Opens kinds a k → (¬ AreNotOfRun run.words) × IsAccepted kinds a
+  pub formless : HaveNoForm run.words → (end ≡ Says Usage) ⊎ (end ≡ Lacks)
+
+-- where a tessellation is loaded its file holds a spelling of it
+pub record IsHeld (contents : Contents) (tess : List ℕ) (kinds : List TileKind) : Type 0 where
+  pub bytes : List ℕ
+  pub holds : Holds contents tess tess_limit bytes
+  pub spelling : IsSpelling bytes kinds
+  pub valid : IsValid kinds
+
+module _ (contents : Contents) (tess : List ℕ) where
+  abbrev IsSpelt : Outcome (List TileKind) → Type 0
+  IsSpelt (Loaded kinds) = IsHeld contents tess kinds
+  IsSpelt (Refused line) = Unit {0}
+
+  held : {o : Outcome (List TileKind)} → IsTess contents tess o → IsSpelt o
+  held (tess_too_long long) = tt
+  held (tess_line bytes n holds bad) = tt
+  held (tess_kinds bytes fault holds bad) = tt
+  held (tess_loaded bytes kinds holds spelling valid) = record { bytes = bytes; holds = holds; spelling = spelling; valid = valid }
+
+serves_for : (call : Call) (task : Task) (kinds : List TileKind) (a : TreeAutomaton) (k : ℕ) → Ask call.words task → ServesFor call.contents call.lesson task kinds a k → Serves call kinds a k
+serves_for call (TellType tess n walk) kinds a k ask serves = absurd serves
+serves_for call (CheckRules tess rules) kinds a k ask serves = absurd serves
+serves_for call (LearnRules tess cells out) kinds a k ask serves = absurd serves
+serves_for call (RunSession tess n rules) kinds a k ask serves =
+    let file = held call.contents tess serves.0 in
+    subst (λ (m : ℕ). Serves call kinds a m) serves.3 (record {
+      tess = tess;
+      rules = rules;
+      tess_bytes = file.bytes;
+      form = ask;
+      holds_tess = file.holds;
+      tess_spelling = file.spelling;
+      valid = file.valid;
+      loaded = serves.1;
+      is_kind = serves.2;
+    })
+
+pub reached_by : (call : Call) (task : Task) → Ask call.words task → {end : End} → FitsTask call.contents call.lesson task end → IsReached call end
+reached_by call task ask (fits_row line row) = due line (by_task task line ask row)
+reached_by call task ask (fits_unread role fetches) = unread role (record { task = task; ask = ask; reached = fetches })
+reached_by call task ask (fits_unstored stores) = unstored (record { task = task; ask = ask; reached = stores })
+reached_by call task ask (fits_session kinds a k serves) = serves_for call task kinds a k ask serves
+reached_by call task ask fits_nothing = tt
+
+-- words that ask for a task that stores rules in a file name that file
+out_of : (words : List (List ℕ)) (task : Task) (file : List ℕ) → Ask words task → StoresAs task file → IsOut words file
+out_of words (TellType tess k walk) file ask named = absurd named
+out_of words (CheckRules tess rules) file ask named = absurd named
+out_of words (RunSession tess k rules) file ask named = absurd named
+out_of words (LearnRules tess cells out) file ask named =
+    record { tess = tess; cells = cells; form = subst (λ (o : Option (List ℕ)). IsLearnForm words tess cells o) named ask }
+
+pub of_run : (words : List (List ℕ)) (task : Task) → Ask words task → IsSession task → ¬ AreNotOfRun words
+of_run words (TellType tess k walk) ask session = absurd session
+of_run words (CheckRules tess rules) ask session = absurd session
+of_run words (RunSession tess k rules) ask session = λ none. none tess k rules ask
+of_run words (LearnRules tess cells out) ask session = absurd session
+
+-- words that ask for a task that stores rules are not of the form `run`
+not_of_run_for : (call : Call) (task : Task) → Ask call.words task → StoresFor call.contents call.lesson task → AreNotOfRun call.words
+not_of_run_for call (TellType tess k walk) ask stores = absurd stores
+not_of_run_for call (CheckRules tess rules) ask stores = absurd stores
+not_of_run_for call (RunSession tess k rules) ask stores = absurd stores
+not_of_run_for call (LearnRules tess cells out) ask stores = λ tess' k rules form. absurd (cc (one_task call.words (LearnRules tess cells out) (RunSession tess' k rules) ask form))
+
+pub not_of_run : (call : Call) → Stores call → AreNotOfRun call.words
+not_of_run call stores = not_of_run_for call stores.task stores.ask stores.reached
+
+module _ (run : Run) where
+  abbrev Decided : End → Type 0
+  Decided end = IsDecided run.files_tell run.words (files_of run.before) (files_of run.after) (teacher_of run.before) (teacher_of run.after) end
+
+  abbrev Carried : Task → End → Type 0
+  Carried task end = IsCarriedOut run.files_tell (files_of run.before) (files_of run.after) (teacher_of run.before) (teacher_of run.after) task end
+
+  same_files : files_of run.after ≡ files_of run.before → (file : List ℕ) → run.after.contents file ≡ run.before.contents file
+  same_files same file = λ i. (same i).contents file
+
+  stored_by : (task : Task) (end : End) → Ask run.words task → (c : Carried task end) → IsTrue run.files_tell → (tess out : List ℕ) (cells : ℕ) (kinds : List TileKind) (a : TreeAutomaton)
+      → IsLearnForm run.words tess cells (Some out) → Makes run.before.contents c.lesson tess cells kinds a
+      → end ≡ Says (Accepted (length a.states) (length a.corners)) → run.after.contents out ≡ Some (rules_text a)
+  stored_by task end ask c told tess out cells kinds a form makes is =
+      let same : LearnRules tess cells (Some out) ≡ task = one_task run.words (LearnRules tess cells (Some out)) task form ask in
+      c.stored told out kinds a (subst (λ (t : Task). StoresAs t out) same refl) (subst (λ (t : Task). MakesFor run.before.contents c.lesson t kinds a) same makes) is
+
+  of_task : (task : Task) (end : End) → Ask run.words task → (c : Carried task end) → Known run c.lesson end
+  of_task task end ask c = record {
+    reached = λ told. reached_by (call_of run c.lesson) task ask (c.due told);
+    fetches = c.fetches;
+    unwritten = c.unstored;
+    short = c.short;
+    stores = λ none. c.stores (λ file named. none file (out_of run.words task file ask named));
+    others = λ told file other. c.others told file (λ named. other (out_of run.words task file ask named));
+    kept = λ told. elim (c.kept told) [
+      | inl same ↦ inl same
+      | inr stored ↦ inr (record { task = task; ask = ask; reached = stored.0 }, stored.1)
+    ];
+    stored = stored_by task end ask c;
+    closed = λ n is. record { task = task; ask = ask; closed = c.closed n is };
+    gave_up = λ n is. record { task = task; ask = ask; given_up = c.gave_up n is };
+    ready = λ kinds a k is. let known = c.ready kinds a k is in (of_run run.words task ask known.0, known.2);
+    formless = λ none. absurd (none task ask);
+  }
+
+  pub known : {end : End} → Decided end → (lesson : Lesson) × Known run lesson end
+  known (formless none same) = (
+    None,
+    record {
+      reached = λ told. due Usage (no_form none);
+      fetches = λ role is. absurd (cc is);
+      unwritten = λ is. absurd (cc is);
+      short = λ is. absurd (cc is);
+      stores = λ file. ap (λ (x : FilesSeen). x.failed_stores) same;
+      others = λ told file other. same_files same file;
+      kept = λ told. inl (same_files same);
+      stored = λ told tess out cells kinds a form makes is. absurd (none (LearnRules tess cells (Some out)) form);
+      closed = λ n is. absurd (cc is);
+      gave_up = λ n is. absurd (cc is);
+      ready = λ kinds a k is. absurd (cc is);
+      formless = λ none'. inl refl;
+    },
+  )
+  known (wordless same) = (
+    None,
+    record {
+      reached = λ told. tt;
+      fetches = λ role is. absurd (cc is);
+      unwritten = λ is. absurd (cc is);
+      short = λ is. absurd (cc is);
+      stores = λ file. ap (λ (x : FilesSeen). x.failed_stores) same;
+      others = λ told file other. same_files same file;
+      kept = λ told. inl (same_files same);
+      stored = λ told tess out cells kinds a form makes is. absurd (cc is);
+      closed = λ n is. absurd (cc is);
+      gave_up = λ n is. absurd (cc is);
+      ready = λ kinds a k is. absurd (cc is);
+      formless = λ none'. inr refl;
+    },
+  )
+  known (carried_out task end ask c) = (c.lesson, of_task task end ask c)

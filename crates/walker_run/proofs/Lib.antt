@@ -1,0 +1,14 @@
+pub mod Unique
+pub mod Whatever
+pub mod LineKinds
+pub mod Making
+pub mod Steps
+pub mod Carrying
+pub mod Keeping
+pub mod Streams
+pub mod OverTree
+pub mod Known
+pub mod Opened
+pub mod TableRows
+pub mod StreamRows
+pub mod Promised

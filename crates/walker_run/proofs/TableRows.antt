@@ -1,0 +1,440 @@
+-- From the way in which a run ended to the rows of the table.
+use Rattle.std.proofs.Common.{◌≡◌, ℕ, IsTrue, List, Option, Some, ◌++◌, codes, decimal, ◌⊎◌, inl, inr, refl, sym, ◌∙◌, ap, subst, append_assoc, length}
+use Rattle.tile_model.specs.Tessellations.{TileKind}
+use Rattle.tile_model.specs.Walks.{type_of}
+use Rattle.tree_model.specs.Automata.{TreeAutomaton}
+use Rattle.rules_file.specs.Spelling.{rules_text}
+use Rattle.line_server.specs.Answering.{Answering, over_walks}
+use Rattle.way_io.specs.Contents.{KeepsAll}
+use Rattle.regular_maker.specs.Regular.{p_of, q_of}
+use Rattle.regular_maker.specs.Automaton.{regular_automaton}
+use Rattle.call_words.specs.Tasks.{TellType, CheckRules, RunSession, LearnRules, RulesFrom, FromTeacher, HaveNoForm, AreNotOfRun, IsLearnForm}
+use Rattle.walker_run.specs.declared.status.Status.{Status}
+use Rattle.walker_run.specs.declared.status.Status.TheVariants.{Done, Usage as UsageStatus, FileFault as FileFaultStatus, FileTooLong as FileTooLongStatus, TessRefused, RulesText, NotAccepted, Spherical as SphericalStatus, Closed as ClosedStatus, GaveUp as GaveUpStatus, StoreFault as StoreFaultStatus, Memory, ReadFault, WriteFault, InputTooLong as InputTooLongStatus}
+use Rattle.walker_run.specs.declared.line.Role.{Role}
+use Rattle.walker_run.specs.declared.line.Line.{Line}
+use Rattle.walker_run.specs.declared.line.Line.TheVariants.{TypeTold, Accepted, Usage, FileFault, FileTooLong, TessLine, TessKinds, RulesSyntax, RulesShape, Broken, Spherical, Closed, GaveUp, StoreFault, InputTooLong}
+use Rattle.walker_run.specs.Runs.{Run, call_of}
+use Rattle.walker_run.specs.Lines.{IsOutside, MayStore, status_of, text_of}
+use Rattle.walker_run.specs.Held.{Lesson, Loaded, tess_loaded, rules_loaded, made_rules, IsTess, IsMade}
+use Rattle.walker_run.specs.Due.{CheckRow, check_no_tess, check_no_rules, IsDue, ServesSome, type_told, check_accepted, by_task, Makes, MaySay, due, unread, unstored, Serves, Stores, Fetches}
+use Rattle.walker_run.specs.Outcome.{Writes, WritesNothing, ComesExactly, Gives, GivesAtOnce, TellsType, TellsAccepted, TellsLearnt}
+use Rattle.walker_run.specs.Promise.{BeginsLine, BeginsFault, IsServing, TellsFileFault, TellsStoreFault, TellsClosed, TellsGiveUp, TellsTaught, StoresRules}
+use Rattle.walker_run.specs.Effects.{End, Says, Opens, Lacks, MayStoreAt}
+use Rattle.walker_run.specs.Ending.{SaysLine, said, unsaid, unwritten, EndsStream, answered, cut_off, over_limit, broken_off, out_of_memory, IsWritten}
+use Rattle.call_words.proofs.OneTask.{one_task}
+use Rattle.walker_run.proofs.Unique.{one_line, never_both, row_of}
+use Rattle.walker_run.proofs.LineKinds.{kind_of, OfFault, refusal_undone, session_kind, tess_kind, done_accepted, due_no_fault}
+use Rattle.walker_run.proofs.Known.{IsReached, Known}
+
+-- the statuses with which only a line that is due comes
+abbrev pub IsOfLine : Status → Type 0
+IsOfLine ReadFault = ⊥
+IsOfLine InputTooLongStatus = ⊥
+IsOfLine FileFaultStatus = ⊥
+IsOfLine StoreFaultStatus = ⊥
+IsOfLine WriteFault = ⊥
+IsOfLine Memory = ⊥
+IsOfLine _ = Unit {0}
+
+-- the status of a stream that is answered to its end
+abbrev pub IsDone : Status → Type 0
+IsDone Done = Unit {0}
+IsDone _ = ⊥
+
+-- no line has the status of a failed write, of want of memory or of a failed read
+abbrev IsSpoken : Status → Type 0
+IsSpoken WriteFault = ⊥
+IsSpoken Memory = ⊥
+IsSpoken ReadFault = ⊥
+IsSpoken _ = Unit {0}
+
+spoken : (line : Line) → IsSpoken (status_of line)
+spoken (TypeTold d) = tt
+spoken (Accepted states corners) = tt
+spoken Usage = tt
+spoken (FileFault role) = tt
+spoken (FileTooLong role) = tt
+spoken (TessLine n) = tt
+spoken (TessKinds fault) = tt
+spoken RulesSyntax = tt
+spoken (RulesShape part index) = tt
+spoken (Broken at) = tt
+spoken (Spherical p q) = tt
+spoken (Closed n) = tt
+spoken (GaveUp n) = tt
+spoken StoreFault = tt
+spoken InputTooLong = tt
+
+-- the line of a status that has one line alone
+abbrev IsLineOf : Status → Line → Type 0
+IsLineOf FileFaultStatus line = (role : Role) × (line ≡ FileFault role)
+IsLineOf StoreFaultStatus line = line ≡ StoreFault
+IsLineOf ClosedStatus line = (n : ℕ) × (line ≡ Closed n)
+IsLineOf GaveUpStatus line = (n : ℕ) × (line ≡ GaveUp n)
+IsLineOf InputTooLongStatus line = line ≡ InputTooLong
+IsLineOf _ line = Unit {0}
+
+line_by_status : (line : Line) → IsLineOf (status_of line) line
+line_by_status (TypeTold d) = tt
+line_by_status (Accepted states corners) = tt
+line_by_status Usage = tt
+line_by_status (FileFault role) = (role, refl)
+line_by_status (FileTooLong role) = tt
+line_by_status (TessLine n) = tt
+line_by_status (TessKinds fault) = tt
+line_by_status RulesSyntax = tt
+line_by_status (RulesShape part index) = tt
+line_by_status (Broken at) = tt
+line_by_status (Spherical p q) = tt
+line_by_status (Closed n) = (n, refl)
+line_by_status (GaveUp n) = (n, refl)
+line_by_status StoreFault = refl
+line_by_status InputTooLong = refl
+
+line_with : (line : Line) (status : Status) → status_of line ≡ status → IsLineOf status line
+line_with line status is = subst (λ (s : Status). IsLineOf s line) is (line_by_status line)
+
+-- no status of a line tells of the outside
+line_untold : (status : Status) → IsOfLine status → IsOutside status → ⊥
+line_untold Done line outside = outside
+line_untold UsageStatus line outside = outside
+line_untold FileFaultStatus line outside = line
+line_untold FileTooLongStatus line outside = outside
+line_untold TessRefused line outside = outside
+line_untold RulesText line outside = outside
+line_untold NotAccepted line outside = outside
+line_untold SphericalStatus line outside = outside
+line_untold ClosedStatus line outside = outside
+line_untold GaveUpStatus line outside = outside
+line_untold Memory line outside = line
+line_untold ReadFault line outside = line
+line_untold WriteFault line outside = line
+line_untold StoreFaultStatus line outside = line
+line_untold InputTooLongStatus line outside = line
+
+module _ (run : Run) (lesson : Lesson) where
+  -- the line of this run, and its stream
+  abbrev pub SaidSo : Line → Type 0
+  SaidSo line = SaysLine run.sink_tells line run.before.taken run.after.taken run.status
+
+  abbrev pub Streams : Answering → Type 0
+  Streams answering = EndsStream run.source_tells run.sink_tells answering run.before.left run.after.left run.before.taken run.after.taken run.status
+
+  pub between : {status : Status} → run.status ≡ status → IsOutside status → IsOutside run.status
+  between is outside = subst IsOutside (sym is) outside
+
+  -- nothing that is due was said, for a cause of the outside or of memory
+  unanswered : (status : Status) → IsOfLine status → IsOutside run.status → ComesExactly run lesson status
+  unanswered status line outside = record {
+    only = λ same. absurd (line_untold status line (subst IsOutside same outside));
+    always = λ other is_due is. inr outside;
+  }
+
+  said_due : (line : Line) (status : Status) → IsOfLine status → run.status ≡ status_of line → Writes run (text_of line) → MaySay (call_of run lesson) line → ComesExactly run lesson status
+  said_due line status of_line is wrote (due l is_due) = record {
+    only = λ same. (l, is_due, sym is ∙ same, wrote);
+    always = λ other also other_is.
+        let same : l ≡ other = one_line (call_of run lesson) l other is_due also in
+        inl (is ∙ ap status_of same ∙ other_is, subst (λ (x : Line). Writes run (text_of x)) same wrote);
+  }
+  said_due line status of_line is wrote (unread role fetches) = unanswered status of_line (between is tt)
+  said_due line status of_line is wrote (unstored stores) = unanswered status of_line (between is tt)
+
+  said_exactly : (line : Line) (status : Status) → IsOfLine status → MaySay (call_of run lesson) line → SaidSo line → ComesExactly run lesson status
+  said_exactly line status of_line may (said is wrote) = said_due line status of_line is wrote may
+  said_exactly line status of_line may (unsaid is kept) = unanswered status of_line (between is tt)
+  said_exactly line status of_line may (unwritten is part) = unanswered status of_line (between is tt)
+
+  -- of the statuses of lines a stream ends with Done alone
+  stream_done : (answering : Answering) → Streams answering → (status : Status) → run.status ≡ status → IsOfLine status → IsDone status
+  stream_done answering (answered is few stands) status same line = subst IsDone (sym is ∙ same) tt
+  stream_done answering (cut_off is stands) status same line = absurd (subst IsOfLine (sym same ∙ is) line)
+  stream_done answering (over_limit is more stands) status same line = absurd (subst IsOfLine (sym same ∙ is) line)
+  stream_done answering (broken_off is stands) status same line = absurd (subst IsOfLine (sym same ∙ is) line)
+  stream_done answering (out_of_memory is stands) status same line = absurd (subst IsOfLine (sym same ∙ is) line)
+
+  -- a stream ends with no status of a refusal
+  abbrev IsOfAnswers : Status → Type 0
+  IsOfAnswers FileFaultStatus = ⊥
+  IsOfAnswers StoreFaultStatus = ⊥
+  IsOfAnswers ClosedStatus = ⊥
+  IsOfAnswers GaveUpStatus = ⊥
+  IsOfAnswers _ = Unit {0}
+
+  stream_status : (answering : Answering) → Streams answering → IsOfAnswers run.status
+  stream_status answering (answered is few stands) = subst IsOfAnswers (sym is) tt
+  stream_status answering (cut_off is stands) = subst IsOfAnswers (sym is) tt
+  stream_status answering (over_limit is more stands) = subst IsOfAnswers (sym is) tt
+  stream_status answering (broken_off is stands) = subst IsOfAnswers (sym is) tt
+  stream_status answering (out_of_memory is stands) = subst IsOfAnswers (sym is) tt
+
+  -- the row of a status of lines other than Done
+  pub exactly : (end : End) → Known run lesson end → IsWritten run end → IsTrue run.files_tell → (status : Status) → IsOfLine status → (IsDone status → ⊥) → ComesExactly run lesson status
+  exactly (Says line) known written told status of_line other = said_exactly line status of_line (known.reached told) written.0
+  exactly (Opens kinds a k) known written told status of_line other = record {
+    only = λ same. absurd (other (stream_done (over_walks kinds a k) written status same of_line));
+    always = λ line is_due is. absurd (never_both (call_of run lesson) line kinds a k is_due (known.reached told));
+  }
+  exactly Lacks known written told status of_line other = unanswered status of_line (between written.0 tt)
+
+  -- the run serves walkers
+  pub serving : (kinds : List TileKind) (a : TreeAutomaton) (k : ℕ) → Known run lesson (Opens kinds a k) → IsServing run lesson
+  serving kinds a k known = record { asked = (known.ready kinds a k refl).0; serves = λ told. record { kinds = kinds; automaton = a; kind = k; serves = known.reached told } }
+
+  -- the row of Done
+  pub done_row : (end : End) → Known run lesson end → IsWritten run end → IsTrue run.files_tell → ServesSome (call_of run lesson) ⊎ ComesExactly run lesson Done
+  done_row (Says line) known written told = inr (said_exactly line Done tt (known.reached told) written.0)
+  done_row (Opens kinds a k) known written told = inl ((serving kinds a k known).serves told)
+  done_row Lacks known written told = inr (unanswered Done tt (between written.0 tt))
+
+  -- what a line that is due with Done gives
+  given : (end : End) → Known run lesson end → IsWritten run end → IsTrue run.files_tell → (line : Line) → status_of line ≡ Done → IsDue (call_of run lesson) line → Gives run Done (text_of line)
+  given (Says other) known written told line done is_due = (said_exactly other Done tt (known.reached told) written.0).always line is_due done
+  given (Opens kinds a k) known written told line done is_due = absurd (never_both (call_of run lesson) line kinds a k is_due (known.reached told))
+  given Lacks known written told line done is_due = inr (between written.0 tt)
+
+  -- the row of a type that is told
+  pub type_row : (end : End) → Known run lesson end → IsWritten run end → IsTrue run.files_tell → (line : List ℕ) → TellsType (call_of run lesson) line → Gives run Done line
+  type_row end known written told line t =
+      let d = type_of t.kinds (t.k, 0) t.walk in
+      let is_due : IsDue (call_of run lesson) (TypeTold d) = by_task (TellType t.tess t.k t.walk) (TypeTold d) t.form (type_told t.kinds (tess_loaded t.bytes t.kinds t.holds t.spelling t.valid) t.is_kind) in
+      let same : text_of (TypeTold d) ≡ line = sym (t.written ∙ append_assoc (codes "type " ++ decimal d.0 ++ codes " ") (decimal d.1) (codes "\n") ∙ append_assoc (codes "type " ++ decimal d.0) (codes " ") (decimal d.1 ++ codes "\n") ∙ append_assoc (codes "type ") (decimal d.0) (codes " " ++ (decimal d.1 ++ codes "\n"))) in
+      subst (λ (l : List ℕ). Gives run Done l) same (given end known written told (TypeTold d) refl is_due)
+
+  accepted_text : (states corners : ℕ) (line : List ℕ) → line ≡ codes "accepted " ++ decimal states ++ codes " " ++ decimal corners ++ codes "\n" → text_of (Accepted states corners) ≡ line
+  accepted_text states corners line written = sym (written ∙ append_assoc (codes "accepted " ++ decimal states ++ codes " ") (decimal corners) (codes "\n") ∙ append_assoc (codes "accepted " ++ decimal states) (codes " ") (decimal corners ++ codes "\n") ∙ append_assoc (codes "accepted ") (decimal states) (codes " " ++ (decimal corners ++ codes "\n")))
+
+  -- the row of rules that are accepted
+  pub accepted_row : (end : End) → Known run lesson end → IsWritten run end → IsTrue run.files_tell → (line : List ℕ) → TellsAccepted (call_of run lesson) line → Gives run Done line
+  accepted_row end known written told line t =
+      let states = length t.automaton.states in
+      let corners = length t.automaton.corners in
+      let is_due : IsDue (call_of run lesson) (Accepted states corners) = by_task (CheckRules t.tess t.rules) (Accepted states corners) t.form (check_accepted t.kinds t.automaton (tess_loaded t.tess_bytes t.kinds t.holds_tess t.tess_spelling t.valid) (rules_loaded t.rules_bytes t.automaton t.holds_rules t.rules_spelling t.accepted)) in
+      subst (λ (l : List ℕ). Gives run Done l) (accepted_text states corners line t.written) (given end known written told (Accepted states corners) refl is_due)
+
+  -- the row of rules that are learnt
+  pub learnt_row : (end : End) → Known run lesson end → IsWritten run end → IsTrue run.files_tell → (line : List ℕ) → TellsLearnt (call_of run lesson) line → Gives run Done line
+  learnt_row end known written told line t =
+      let a = regular_automaton (p_of t.kinds) (q_of t.kinds) in
+      let states = length a.states in
+      let corners = length a.corners in
+      let is_due : IsDue (call_of run lesson) (Accepted states corners) = by_task (LearnRules t.tess t.cells t.out) (Accepted states corners) t.form (check_accepted t.kinds a (tess_loaded t.bytes t.kinds t.holds t.spelling t.valid) (made_rules t.regular t.infinite)) in
+      subst (λ (l : List ℕ). Gives run Done l) (accepted_text states corners line t.written) (given end known written told (Accepted states corners) refl is_due)
+
+  -- words in no form
+  at_once : (line : Line) → line ≡ Usage → SaidSo line → GivesAtOnce run UsageStatus (text_of Usage)
+  at_once line usage (said is wrote) = inl (is ∙ ap status_of usage, λ told. wrote told ∙ ap (λ (l : Line). run.before.taken ++ text_of l) usage)
+  at_once line usage (unsaid is kept) = inr (inl is)
+  at_once line usage (unwritten is part) = inr (inr is)
+
+  pub no_form_row : (end : End) → Known run lesson end → IsWritten run end → HaveNoForm run.words → GivesAtOnce run UsageStatus (text_of Usage)
+  no_form_row (Says line) known written none = elim (known.formless none) [
+    | inl is ↦ at_once line (cc is) written.0
+    | inr is ↦ absurd (cc is)
+  ]
+  no_form_row (Opens kinds a k) known written none = elim (known.formless none) [ inl is ↦ absurd (cc is) | inr is ↦ absurd (cc is) ]
+  no_form_row Lacks known written none = inr (inl written.0)
+
+  unread_line : (line : Line) → SaidSo line → run.status ≡ ReadFault → ⊥
+  unread_line line (said is wrote) read = subst IsSpoken (sym is ∙ read) (spoken line)
+  unread_line line (unsaid is kept) read = absurd (cc (is, read))
+  unread_line line (unwritten is part) read = absurd (cc (is, read))
+
+  -- the line of a status that has one line alone, in a run
+  said_with : (line : Line) (status : Status) → IsSpoken status → SaidSo line → run.status ≡ status → (status_of line ≡ status) × Writes run (text_of line)
+  said_with line status some (said is wrote) same = (sym is ∙ same, wrote)
+  said_with line status some (unsaid is kept) same = absurd (subst IsSpoken (sym same ∙ is) some)
+  said_with line status some (unwritten is part) same = absurd (subst IsSpoken (sym same ∙ is) some)
+
+  fetches_of : (role : Role) {line : Line} → line ≡ FileFault role → MaySay (call_of run lesson) line → Fetches (call_of run lesson) role
+  fetches_of role is (due l is_due) = absurd (due_no_fault (call_of run lesson) is_due (ap kind_of is))
+  fetches_of role is (unread other fetches) = let same : other ≡ role = cc is in subst (λ (r : Role). Fetches (call_of run lesson) r) same fetches
+  fetches_of role is (unstored stores) = absurd (cc is)
+
+  stores_of : {line : Line} → line ≡ StoreFault → MaySay (call_of run lesson) line → Stores (call_of run lesson)
+  stores_of is (due l is_due) = absurd (due_no_fault (call_of run lesson) is_due (ap kind_of is))
+  stores_of is (unread other fetches) = absurd (cc is)
+  stores_of is (unstored stores) = stores
+
+  -- a file that could not be read
+  pub fault_row : (end : End) → Known run lesson end → IsWritten run end → run.status ≡ FileFaultStatus → TellsFileFault run lesson
+  fault_row (Says line) known written fault =
+      let told = said_with line FileFaultStatus tt written.0 fault in
+      let found = line_with line FileFaultStatus told.0 in
+      record {
+        role = found.0;
+        fetches = λ tell. fetches_of found.0 found.1 (known.reached tell);
+        counted = known.fetches found.0 (ap Says found.1);
+        written = subst (λ (l : Line). Writes run (text_of l)) found.1 told.1;
+      }
+  fault_row (Opens kinds a k) known written fault = absurd (subst IsOfAnswers fault (stream_status (over_walks kinds a k) written))
+  fault_row Lacks known written fault = absurd (cc (written.0, fault))
+
+  -- a file that could not be written
+  pub store_row : (end : End) → Known run lesson end → IsWritten run end → run.status ≡ StoreFaultStatus → TellsStoreFault run lesson
+  store_row (Says line) known written fault =
+      let told = said_with line StoreFaultStatus tt written.0 fault in
+      let found : line ≡ StoreFault = line_with line StoreFaultStatus told.0 in
+      record {
+        stores = λ tell. stores_of found (known.reached tell);
+        counted = known.unwritten (ap Says found);
+        written = subst (λ (l : Line). Writes run (text_of l)) found told.1;
+      }
+  store_row (Opens kinds a k) known written fault = absurd (subst IsOfAnswers fault (stream_status (over_walks kinds a k) written))
+  store_row Lacks known written fault = absurd (cc (written.0, fault))
+
+  -- the rows of a teacher that refused
+  pub closed_row : (end : End) → Known run lesson end → IsWritten run end → run.status ≡ ClosedStatus → TellsClosed run
+  closed_row (Says line) known written closed =
+      let told = said_with line ClosedStatus tt written.0 closed in
+      let found = line_with line ClosedStatus told.0 in
+      record { n = found.0; closed = known.closed found.0 (ap Says found.1); written = subst (λ (l : Line). Writes run (text_of l)) found.1 told.1 }
+  closed_row (Opens kinds a k) known written closed = absurd (subst IsOfAnswers closed (stream_status (over_walks kinds a k) written))
+  closed_row Lacks known written closed = absurd (cc (written.0, closed))
+
+  pub give_up_row : (end : End) → Known run lesson end → IsWritten run end → run.status ≡ GaveUpStatus → TellsGiveUp run
+  give_up_row (Says line) known written gave =
+      let told = said_with line GaveUpStatus tt written.0 gave in
+      let found = line_with line GaveUpStatus told.0 in
+      record { cells = found.0; gave_up = known.gave_up found.0 (ap Says found.1); written = subst (λ (l : Line). Writes run (text_of l)) found.1 told.1 }
+  give_up_row (Opens kinds a k) known written gave = absurd (subst IsOfAnswers gave (stream_status (over_walks kinds a k) written))
+  give_up_row Lacks known written gave = absurd (cc (written.0, gave))
+
+  -- the statuses of the stream come only where walkers are served
+  pub read_row : (end : End) → Known run lesson end → IsWritten run end → run.status ≡ ReadFault → IsServing run lesson
+  read_row (Says line) known written read = absurd (unread_line line written.0 read)
+  read_row (Opens kinds a k) known written read = serving kinds a k known
+  read_row Lacks known written read = absurd (cc (written.0, read))
+
+  pub long_row : (end : End) → Known run lesson end → IsWritten run end → run.status ≡ InputTooLongStatus → IsServing run lesson
+  long_row (Says line) known written long =
+      let told = said_with line InputTooLongStatus tt written.0 long in
+      let found : line ≡ InputTooLong = line_with line InputTooLongStatus told.0 in
+      absurd (known.short (ap Says found))
+  long_row (Opens kinds a k) known written long = serving kinds a k known
+  long_row Lacks known written long = absurd (cc (written.0, long))
+
+  -- want of memory
+  pub silent : (line : Line) → SaidSo line → run.status ≡ Memory → WritesNothing run
+  silent line (said is wrote) want = absurd (subst IsSpoken (sym is ∙ want) (spoken line))
+  silent line (unsaid is kept) want = kept
+  silent line (unwritten is part) want = absurd (cc (is, want))
+
+  pub memory_row : (end : End) → Known run lesson end → IsWritten run end → run.status ≡ Memory → WritesNothing run ⊎ IsServing run lesson
+  memory_row (Says line) known written want = inl (silent line written.0 want)
+  memory_row (Opens kinds a k) known written want = inr (serving kinds a k known)
+  memory_row Lacks known written want = inl written.1
+
+  -- a write that failed
+  pub begun : (line : Line) → Known run lesson (Says line) → SaidSo line → run.status ≡ WriteFault → BeginsLine run lesson line
+  begun line known (said is wrote) broke = absurd (subst IsSpoken (sym is ∙ broke) (spoken line))
+  begun line known (unsaid is kept) broke = absurd (cc (is, broke))
+  begun line known (unwritten is part) broke = record {
+    may = known.reached;
+    counted = λ role is_fault. known.fetches role (ap Says is_fault);
+    store_counted = λ is_fault. known.unwritten (ap Says is_fault);
+    closed = λ n is_closed. known.closed n (ap Says is_closed);
+    gave_up = λ n is_gave. known.gave_up n (ap Says is_gave);
+    written = part;
+  }
+
+  pub write_row : (end : End) → Known run lesson end → IsWritten run end → run.status ≡ WriteFault → ((line : Line) × BeginsLine run lesson line) ⊎ IsServing run lesson
+  write_row (Says line) known written broke = inl (line, begun line known written.0 broke)
+  write_row (Opens kinds a k) known written broke = inr (serving kinds a k known)
+  write_row Lacks known written broke = absurd (cc (written.0, broke))
+
+  -- no line that may be said to words of the form `run` has the status Done
+  unserved : (line : Line) → MaySay (call_of run lesson) line → status_of line ≡ Done → AreNotOfRun run.words
+  unserved line (due l is_due) done = λ tess k rules form.
+      refusal_undone l (session_kind run.before.contents lesson tess k rules (row_of (call_of run lesson) (RunSession tess k rules) form is_due)) done
+  unserved line (unread role fetches) done = absurd (cc done)
+  unserved line (unstored stores) done = absurd (cc done)
+
+  pub served_row : (end : End) → Known run lesson end → IsWritten run end → IsTrue run.files_tell → ¬ AreNotOfRun run.words → run.status ≡ Done → ServesSome (call_of run lesson)
+  served_row (Says line) known written told form done =
+      let is = said_with line Done tt written.0 done in
+      absurd (form (unserved line (known.reached told) is.0))
+  served_row (Opens kinds a k) known written told form done = (serving kinds a k known).serves told
+  served_row Lacks known written told form done = absurd (cc (written.0, done))
+
+  -- what the files hold
+  pub kept_row : (end : End) → Known run lesson end → IsWritten run end → IsTrue run.files_tell → (MayStore run.status → ⊥) → KeepsAll run.before.contents run.after.contents
+  kept_row end known written told never = elim (known.kept told) [
+    | inl same ↦ same
+    | inr stored ↦ absurd (never (may_store end written stored.1))
+  ]
+    where
+      line_may : (line : Line) → SaidSo line → MayStore (status_of line) → MayStore run.status
+      line_may line (said is wrote) may = subst MayStore (sym is) may
+      line_may line (unsaid is kept) may = subst MayStore (sym is) tt
+      line_may line (unwritten is part) may = subst MayStore (sym is) tt
+
+      may_store : (e : End) → IsWritten run e → MayStoreAt e → MayStore run.status
+      may_store (Says line) w may = line_may line w.0 may
+      may_store (Opens kinds a k) w may = absurd may
+      may_store Lacks w may = subst MayStore (sym w.0) tt
+
+  pub unmade_row : (end : End) → Known run lesson end → IsTrue run.files_tell → (Stores (call_of run lesson) → ⊥) → KeepsAll run.before.contents run.after.contents
+  unmade_row end known told never = elim (known.kept told) [
+    | inl same ↦ same
+    | inr stored ↦ absurd (never stored.0)
+  ]
+
+  -- of rules that are made nothing else is said than their numbers, where no fault is told
+  accepted_due : (tess : List ℕ) (cells : ℕ) (out : Option (List ℕ)) (kinds : List TileKind) (a : TreeAutomaton) → IsLearnForm run.words tess cells out → Makes run.before.contents lesson tess cells kinds a → IsDue (call_of run lesson) (Accepted (length a.states) (length a.corners))
+  accepted_due tess cells out kinds a form makes = by_task (LearnRules tess cells out) (Accepted (length a.states) (length a.corners)) form (check_accepted kinds a makes.loaded makes.made)
+
+  stored_done : (tess out : List ℕ) (cells : ℕ) (kinds : List TileKind) (a : TreeAutomaton) → IsLearnForm run.words tess cells (Some out) → Makes run.before.contents lesson tess cells kinds a
+      → (line : Line) → Known run lesson (Says line) → IsTrue run.files_tell → status_of line ≡ Done → MaySay (call_of run lesson) line → run.after.contents out ≡ Some (rules_text a)
+  stored_done tess out cells kinds a form makes line known told done (due l is_due) =
+      let same : l ≡ Accepted (length a.states) (length a.corners) = one_line (call_of run lesson) l (Accepted (length a.states) (length a.corners)) is_due (accepted_due tess cells (Some out) kinds a form makes) in
+      known.stored told tess out cells kinds a form makes (ap Says same)
+  stored_done tess out cells kinds a form makes line known told done (unread role fetches) = absurd (cc done)
+  stored_done tess out cells kinds a form makes line known told done (unstored stores) = absurd (cc done)
+
+  stored_broken : (tess out : List ℕ) (cells : ℕ) (kinds : List TileKind) (a : TreeAutomaton) → IsLearnForm run.words tess cells (Some out) → Makes run.before.contents lesson tess cells kinds a
+      → (line : Line) → Known run lesson (Says line) → IsTrue run.files_tell → BeginsLine run lesson line → MaySay (call_of run lesson) line → (run.after.contents out ≡ Some (rules_text a)) ⊎ BeginsFault run lesson
+  stored_broken tess out cells kinds a form makes line known told begins (due l is_due) =
+      let same : l ≡ Accepted (length a.states) (length a.corners) = one_line (call_of run lesson) l (Accepted (length a.states) (length a.corners)) is_due (accepted_due tess cells (Some out) kinds a form makes) in
+      inl (known.stored told tess out cells kinds a form makes (ap Says same))
+  stored_broken tess out cells kinds a form makes line known told begins (unread role fetches) = inr (record { line = FileFault role; fault = inl (role, refl); begins = begins })
+  stored_broken tess out cells kinds a form makes line known told begins (unstored stores) = inr (record { line = StoreFault; fault = inr refl; begins = begins })
+
+  of_learn : (tess : List ℕ) (cells : ℕ) (out : Option (List ℕ)) → IsLearnForm run.words tess cells out → ¬ AreNotOfRun run.words → ⊥
+  of_learn tess cells out form asked = asked (λ tess' k rules run_form. absurd (cc (one_task run.words (LearnRules tess cells out) (RunSession tess' k rules) form run_form)))
+
+  -- the rules that are made were stored before their line was written
+  pub stored_row : (end : End) → Known run lesson end → IsWritten run end → IsTrue run.files_tell → (tess out : List ℕ) (cells : ℕ) (kinds : List TileKind) (a : TreeAutomaton)
+      → IsLearnForm run.words tess cells (Some out) → Makes run.before.contents lesson tess cells kinds a → StoresRules run lesson out a
+  stored_row (Says line) known written told tess out cells kinds a form makes = record {
+    at_done = λ done. stored_done tess out cells kinds a form makes line known told (said_with line Done tt written.0 done).0 (known.reached told);
+    at_write_fault = λ broke. stored_broken tess out cells kinds a form makes line known told (begun line known written.0 broke) (known.reached told);
+  }
+  stored_row (Opens ks b k) known written told tess out cells kinds a form makes = absurd (of_learn tess cells (Some out) form (known.ready ks b k refl).0)
+  stored_row Lacks known written told tess out cells kinds a form makes = record { at_done = λ done. absurd (cc (written.0, done)); at_write_fault = λ broke. absurd (cc (written.0, broke)) }
+
+  -- what is said to words of the form `learn` with the status Done
+  taught_line : (tess : List ℕ) (cells : ℕ) (out : Option (List ℕ)) {line : Line} → CheckRow run.before.contents lesson tess (FromTeacher cells) line → status_of line ≡ Done → Writes run (text_of line)
+      → ((file : List ℕ) (kinds : List TileKind) (a : TreeAutomaton) → out ≡ Some file → Makes run.before.contents lesson tess cells kinds a → run.after.contents file ≡ Some (rules_text a))
+      → TellsTaught run lesson tess cells out
+  taught_line tess cells out (check_no_tess line is) done wrote stored = absurd (refusal_undone line (tess_kind run.before.contents tess line is) done)
+  taught_line tess cells out (check_no_rules kinds line is refused) done wrote stored = absurd (done_accepted run.before.contents lesson tess (FromTeacher cells) kinds line refused done)
+  taught_line tess cells out (check_accepted kinds a is loaded) done wrote stored =
+      let makes : Makes run.before.contents lesson tess cells kinds a = record { loaded = is; made = loaded } in
+      record { kinds = kinds; automaton = a; makes = makes; written = wrote; stored = λ file named. stored file kinds a named makes }
+
+  taught_due : (tess : List ℕ) (cells : ℕ) (out : Option (List ℕ)) → IsLearnForm run.words tess cells out → {line : Line} → MaySay (call_of run lesson) line → status_of line ≡ Done → Writes run (text_of line)
+      → ((file : List ℕ) (kinds : List TileKind) (a : TreeAutomaton) → out ≡ Some file → Makes run.before.contents lesson tess cells kinds a → run.after.contents file ≡ Some (rules_text a))
+      → TellsTaught run lesson tess cells out
+  taught_due tess cells out form (due line is_due) done wrote stored = taught_line tess cells out (row_of (call_of run lesson) (LearnRules tess cells out) form is_due) done wrote stored
+  taught_due tess cells out form (unread role fetches) done wrote stored = absurd (cc done)
+  taught_due tess cells out form (unstored stores) done wrote stored = absurd (cc done)
+
+  pub taught_row : (end : End) → Known run lesson end → IsWritten run end → IsTrue run.files_tell → (tess : List ℕ) (cells : ℕ) (out : Option (List ℕ)) → IsLearnForm run.words tess cells out → run.status ≡ Done → TellsTaught run lesson tess cells out
+  taught_row (Says line) known written told tess cells out form done =
+      let is = said_with line Done tt written.0 done in
+      taught_due tess cells out form (known.reached told) is.0 is.1
+      (λ file kinds a named makes. (stored_row (Says line) known written told tess file cells kinds a (subst (λ (o : Option (List ℕ)). IsLearnForm run.words tess cells o) named form) makes).at_done done)
+  taught_row (Opens kinds a k) known written told tess cells out form done = absurd (of_learn tess cells out form (known.ready kinds a k refl).0)
+  taught_row Lacks known written told tess cells out form done = absurd (cc (written.0, done))

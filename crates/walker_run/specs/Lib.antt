@@ -1,0 +1,10 @@
+pub mod Lines
+pub mod Runs
+pub mod Held
+pub mod Due
+pub mod Serving
+pub mod Outcome
+pub mod Promise
+pub mod Effects
+pub mod Ending
+pub mod Laws

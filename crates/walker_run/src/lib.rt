@@ -1,0 +1,20 @@
+//! What a call of the program comes to: it reads the files that its words name, and says one line
+//! or answers the commands of the input.
+#![tactic(auto)]
+
+pub mod laws;
+mod learn;
+mod line;
+mod load;
+mod say;
+mod serve;
+mod status;
+mod stop;
+mod tasks;
+mod top;
+mod words;
+
+pub use line::{Line, Role};
+pub use status::Status;
+pub use top::run;
+pub use words::words_read;
