@@ -1,32 +1,16 @@
-//! The program: it reads its words and the files that they name, does what they ask for, with the
-//! commands of the input where they ask for that, and exits with a status.
+//! The program: it hands its words, the files, the streams and a learner to [`walker_run::run`], and
+//! exits with the status that this answers.
 #![tactic(auto)]
-
-mod answer;
-mod decide;
-#[cfg(test)]
-mod hostile;
-mod learn;
-mod load;
-mod options;
-mod run;
-mod saying;
-mod serving;
-mod status;
-#[cfg(test)]
-mod tests;
-#[cfg(test)]
-mod uniform;
-mod words;
 
 use state_learner::Learner;
 use std::alloc::Global;
 use std::process::ExitCode;
 use std::{env, io};
+use walker_run::{run, words_read};
 use way_io::{HostFiles, StdSink, StdSource};
 
 fn main(rt: HostRuntime) -> ExitCode {
-    let words = match words::words_read(rt.alloc(), words_of(rt.alloc(), &rt)) {
+    let words = match words_read(rt.alloc(), words_of(rt.alloc(), &rt)) {
         Ok(words) => words,
         Err(status) => return ExitCode::from(status.code()),
     };
@@ -34,7 +18,7 @@ fn main(rt: HostRuntime) -> ExitCode {
     let mut input = StdSource::new(rt.reader());
     let mut out = StdSink::new(io::writer(&rt));
     let mut teacher = Learner::new(rt.alloc());
-    let status = run::run(
+    let status = run(
         rt.alloc(),
         words.as_slice(),
         &mut files,

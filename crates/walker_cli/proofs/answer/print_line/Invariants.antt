@@ -1,6 +1,0 @@
-use Rattle.std.proofs.Common.{◌≡◌, ◌++◌, drop}
-use Rattle.walker_cli.specs.StatusLines.{numbers_text, numbered}
-use Rattle.walker_cli.proofs.answer.print_line.Given as goal
-
-abbrev pub invariant-loop-n : goal.invariant-loop-n
-invariant-loop-n l = l.line.items ++ numbers_text (drop l.n-index l.numbers) ≡ numbered l.text l.numbers
