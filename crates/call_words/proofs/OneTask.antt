@@ -1,5 +1,5 @@
 -- Words ask for one task alone.
-use Rattle.std.proofs.Common.{◌≡◌, ℕ, List, [], Option, Some, None, codes, get_or, arith, refl, sym, ◌∙◌, ap, subst}
+use Rattle.std.proofs.Common.{◌≡◌, ℕ, List, [], Option, Some, None, codes, get_or, arith, sym, ◌∙◌, ap, subst}
 use Rattle.std.specs.Str.Parse.{digits_value}
 use Rattle.tile_model.specs.WalkTexts.{walk_text}
 use Rattle.tile_model.proofs.WalkTexts.{one_walk}

@@ -1,11 +1,10 @@
 -- Tasks that are carried out, by the ends that they come to.
-use Rattle.std.proofs.Common.{◌≡◌, ◌<◌, ◌≤◌, ◌⊎◌, inl, inr, ℕ, Bool, IsTrue, List, Option, Some, None, Result, Ok, Err, length, refl, sym, ◌∙◌, ap, subst}
+use Rattle.std.proofs.Common.{◌≡◌, ◌<◌, ◌≤◌, ◌⊎◌, inl, inr, ℕ, Bool, IsTrue, List, Some, None, Result, Ok, Err, length, refl, sym, ap, subst}
 use Rattle.std.specs.Prelude.{IsErrAnd}
 use Rattle.tile_model.specs.Tessellations.{TileKind}
 use Rattle.tree_model.specs.Automata.{TreeAutomaton}
 use Rattle.tree_model.specs.Conditions.{IsAccepted}
 use Rattle.call_words.specs.Tasks.{Task, RunSession, RulesFrom, FromFile, FromTeacher, TeachesFor}
-use Rattle.walker_run.specs.declared.line.Role.{Role}
 use Rattle.walker_run.specs.declared.line.Line.{Line}
 use Rattle.walker_run.specs.declared.line.Line.TheVariants.{Accepted, Usage, FileFault, Closed, GaveUp, StoreFault, InputTooLong}
 use Rattle.walker_run.specs.declared.line.Role.TheVariants.{Tess, Rules}
@@ -16,7 +15,7 @@ use Rattle.walker_run.specs.Due.{Contents, Row, FetchesFor}
 use Rattle.walker_run.specs.Held.{Loaded, Refused, Lesson, IsTess, IsMade}
 use Rattle.walker_run.proofs.LineKinds.{kind_of, made_kind}
 use Rattle.walker_run.specs.Outcome.{HasGivenUpOn, AsksOf}
-use Rattle.walker_run.specs.Effects.{FilesSeen, TeacherSeen, OnlyFetches, IsPlain, IsRefusedBy, End, Says, Opens, Lacks, end_of, line_of, lesson_of, IsNoKind, ServesFor, FitsTask, fits_row, fits_unread, fits_session, fits_nothing, MakesFor, IsSession, IsCarriedOut}
+use Rattle.walker_run.specs.Effects.{FilesSeen, TeacherSeen, OnlyFetches, IsPlain, IsRefusedBy, Says, Opens, Lacks, end_of, line_of, lesson_of, IsNoKind, ServesFor, FitsTask, fits_row, fits_unread, fits_session, fits_nothing, MakesFor, IsSession, IsCarriedOut}
 
 module _ (tells : Bool) (before after : FilesSeen) (asked answered : TeacherSeen) (task : Task) where
   -- a line to which the files led

@@ -1,12 +1,11 @@
 -- Rules that are learnt, stored where a file is named for them, and told.
-use Rattle.std.proofs.Common.{◌≡◌, ◌⊎◌, inl, inr, ℕ, Bool, IsTrue, List, Option, Some, None, length, refl, sym, ◌∙◌, ap, subst}
+use Rattle.std.proofs.Common.{◌≡◌, ◌⊎◌, inl, inr, ℕ, Bool, IsTrue, List, Option, Some, None, length, refl, sym, ◌∙◌, subst}
 use Rattle.tile_model.specs.Tessellations.{TileKind}
 use Rattle.tree_model.specs.Automata.{TreeAutomaton}
 use Rattle.rules_file.specs.Spelling.{rules_text}
 use Rattle.way_io.specs.Counts.{Rose}
 use Rattle.way_io.specs.Contents.{KeepsAll}
-use Rattle.call_words.specs.Tasks.{LearnRules, FromTeacher}
-use Rattle.walker_run.specs.declared.line.Role.{Role}
+use Rattle.call_words.specs.Tasks.{LearnRules}
 use Rattle.walker_run.specs.declared.line.Line.{Line}
 use Rattle.walker_run.specs.declared.line.Line.TheVariants.{Accepted, FileFault, StoreFault, Closed, GaveUp, InputTooLong}
 use Rattle.walker_run.specs.Lines.{MayStore, status_of}

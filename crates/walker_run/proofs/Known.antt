@@ -1,5 +1,5 @@
 -- From what the words came to to what is known of the run.
-use Rattle.std.proofs.Common.{◌≡◌, ◌<◌, ◌⊎◌, inl, inr, ℕ, Bool, IsTrue, List, Option, Some, None, length, refl, sym, ◌∙◌, ap, subst}
+use Rattle.std.proofs.Common.{◌≡◌, ◌⊎◌, inl, inr, ℕ, IsTrue, List, Option, Some, None, length, refl, ap, subst}
 use Rattle.tile_model.specs.Tessellations.{TileKind}
 use Rattle.tree_model.specs.Automata.{TreeAutomaton}
 use Rattle.tree_model.specs.Conditions.{IsAccepted}
@@ -7,15 +7,14 @@ use Rattle.tess_text.specs.Spelling.{IsSpelling}
 use Rattle.rules_file.specs.Spelling.{rules_text}
 use Rattle.way_io.specs.Counts.{Rose}
 use Rattle.way_io.specs.Contents.{KeepsAll}
-use Rattle.call_words.specs.Tasks.{Task, TellType, CheckRules, RunSession, LearnRules, RulesFrom, Ask, HaveNoForm, AreNotOfRun, IsLearnForm, IsOut}
+use Rattle.call_words.specs.Tasks.{Task, TellType, CheckRules, RunSession, LearnRules, Ask, HaveNoForm, AreNotOfRun, IsLearnForm, IsOut}
 use Rattle.call_words.proofs.OneTask.{one_task}
 use Rattle.walker_run.specs.declared.line.Role.{Role}
-use Rattle.walker_run.specs.declared.line.Line.{Line}
 use Rattle.walker_run.specs.declared.line.Line.TheVariants.{Accepted, Usage, FileFault, Closed, GaveUp, StoreFault, InputTooLong}
 use Rattle.walker_run.specs.Runs.{Call, Run, call_of}
 use Rattle.tile_model.specs.Validity.{IsValid}
-use Rattle.walker_run.specs.Held.{Outcome, Loaded, Refused, Lesson, IsTess, tess_too_long, tess_line, tess_kinds, tess_loaded, RulesOf, Holds, tess_limit}
-use Rattle.walker_run.specs.Due.{Contents, Row, no_form, by_task, Serves, Fetches, StoresFor, Stores, Makes, MaySay, due, unread, unstored}
+use Rattle.walker_run.specs.Held.{Outcome, Loaded, Refused, Lesson, IsTess, tess_too_long, tess_line, tess_kinds, tess_loaded, Holds, tess_limit}
+use Rattle.walker_run.specs.Due.{Contents, no_form, by_task, Serves, StoresFor, Stores, Makes, MaySay, due, unread, unstored}
 use Rattle.walker_run.specs.Promise.{IsClosedIn, IsGivenUpIn}
 use Rattle.walker_run.specs.Effects.{FilesSeen, End, Says, Opens, Lacks, ServesFor, FitsTask, fits_row, fits_unread, fits_unstored, fits_session, fits_nothing, StoresAs, MakesFor, MayStoreAt, IsSession, IsCarriedOut, IsDecided, formless, wordless, carried_out}
 use Rattle.walker_run.specs.Ending.{files_of, teacher_of}

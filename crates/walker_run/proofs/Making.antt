@@ -1,5 +1,5 @@
 -- What the rules come to that are made for the kinds of a tessellation.
-use Rattle.std.proofs.Common.{◌≡◌, ◌⊎◌, inl, inr, ℕ, List, Some, Ok, Err, refl, sym, ◌∙◌, length, subst}
+use Rattle.std.proofs.Common.{◌≡◌, ◌⊎◌, inl, inr, ℕ, List, Ok, Err, refl, sym, ◌∙◌, length, subst}
 use Rattle.std.proofs.lemmas.Bool.{cases_eq}
 use Rattle.tile_model.specs.Tessellations.{TileKind, kind_at}
 use Rattle.tree_model.specs.Automata.{TreeAutomaton}

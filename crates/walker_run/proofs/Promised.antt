@@ -1,5 +1,5 @@
 -- From the way in which a run ended to all that is promised of it.
-use Rattle.std.proofs.Common.{◌≡◌, ℕ, List, IsTrue}
+use Rattle.std.proofs.Common.{◌≡◌, IsTrue}
 use Rattle.line_server.specs.Endings.{GivesInOrder, TakesMore}
 use Rattle.way_io.specs.Counts.{Rose}
 use Rattle.tree_laws.specs.Laws.{OfEachTree}

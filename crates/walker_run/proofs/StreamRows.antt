@@ -1,5 +1,5 @@
 -- From the way in which a run ended to what becomes of the commands of its input.
-use Rattle.std.proofs.Common.{◌≡◌, ℕ, ◌<◌, ◌≤◌, IsTrue, List, [], ◌⊎◌, inl, inr, refl, sym, ap, subst, length, arith}
+use Rattle.std.proofs.Common.{◌≡◌, ℕ, ◌<◌, ◌≤◌, IsTrue, List, [], ◌⊎◌, inl, inr, refl, sym, subst, length, arith}
 use Rattle.tile_model.specs.Tessellations.{TileKind}
 use Rattle.tree_model.specs.Automata.{TreeAutomaton}
 use Rattle.tree_model.specs.Conditions.{IsAccepted}
@@ -11,11 +11,11 @@ use Rattle.line_server.specs.Endings.{IsBegun}
 use Rattle.walker_run.specs.declared.status.Status.TheVariants.{Done, Memory, ReadFault, WriteFault, InputTooLong}
 use Rattle.walker_run.specs.declared.line.Role.{Role}
 use Rattle.walker_run.specs.declared.line.Line.{Line}
-use Rattle.walker_run.specs.declared.line.Line.TheVariants.{FileFault, StoreFault}
+use Rattle.walker_run.specs.declared.line.Line.TheVariants.{FileFault}
 use Rattle.walker_run.specs.Held.{Lesson}
 use Rattle.walker_run.specs.Runs.{Run, call_of}
 use Rattle.walker_run.specs.Lines.{IsOutside, status_of}
-use Rattle.walker_run.specs.Due.{Serves, Stores, Fetches, MaySay, due, unread, unstored}
+use Rattle.walker_run.specs.Due.{Serves, MaySay, due, unread, unstored}
 use Rattle.walker_run.specs.Outcome.{WritesNothing}
 use Rattle.walker_run.specs.Serving.{OutputStands, LinesStand, RefusalStands, BeginningStands}
 use Rattle.walker_run.specs.Promise.{IsOutsideOfStream, BeginsLine, AnswersStream}

@@ -1,5 +1,5 @@
 -- From what a session did with a stream to how the stream ended.
-use Rattle.std.proofs.Common.{◌≡◌, ℕ, ◌≤◌, ◌<◌, Bool, IsTrue, List, [], ◌++◌, length, ◌⊎◌, inl, inr, refl, sym, ◌∙◌, subst, arith}
+use Rattle.std.proofs.Common.{◌≡◌, ℕ, ◌≤◌, ◌<◌, Bool, IsTrue, List, [], length, refl, sym, ◌∙◌, subst, arith}
 use Rattle.std.proofs.lemmas.List.{append-nil}
 use Rattle.std.proofs.lemmas.List.Elements.{All-nil}
 use Rattle.structure_check.specs.Rules.{TreeRules}
@@ -11,7 +11,7 @@ use Rattle.line_server.specs.Outputs.{of_lines, none}
 use Rattle.line_server.specs.Sessions.{Continues, answering_of}
 use Rattle.line_server.specs.Endings.{IsServed, IsCutOff, IsOverrun, IsBegun}
 use Rattle.walker_run.specs.declared.status.Status.{Status}
-use Rattle.walker_run.specs.declared.status.Status.TheVariants.{Done, ReadFault, WriteFault, InputTooLong, Memory}
+use Rattle.walker_run.specs.declared.status.Status.TheVariants.{Done, ReadFault, WriteFault, Memory}
 use Rattle.walker_run.specs.declared.line.Line.TheVariants.{InputTooLong as TooLong}
 use Rattle.walker_run.specs.Serving.{OutputStands, LinesStand, StandsUpTo, of_output, of_refusal}
 use Rattle.walker_run.specs.Ending.{SaysLine, said, unsaid, unwritten, EndsStream, answered, cut_off, over_limit, broken_off, out_of_memory}

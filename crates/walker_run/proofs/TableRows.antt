@@ -8,7 +8,7 @@ use Rattle.line_server.specs.Answering.{Answering, over_walks}
 use Rattle.way_io.specs.Contents.{KeepsAll}
 use Rattle.regular_maker.specs.Regular.{p_of, q_of}
 use Rattle.regular_maker.specs.Automaton.{regular_automaton}
-use Rattle.call_words.specs.Tasks.{TellType, CheckRules, RunSession, LearnRules, RulesFrom, FromTeacher, HaveNoForm, AreNotOfRun, IsLearnForm}
+use Rattle.call_words.specs.Tasks.{TellType, CheckRules, RunSession, LearnRules, FromTeacher, HaveNoForm, AreNotOfRun, IsLearnForm}
 use Rattle.walker_run.specs.declared.status.Status.{Status}
 use Rattle.walker_run.specs.declared.status.Status.TheVariants.{Done, Usage as UsageStatus, FileFault as FileFaultStatus, FileTooLong as FileTooLongStatus, TessRefused, RulesText, NotAccepted, Spherical as SphericalStatus, Closed as ClosedStatus, GaveUp as GaveUpStatus, StoreFault as StoreFaultStatus, Memory, ReadFault, WriteFault, InputTooLong as InputTooLongStatus}
 use Rattle.walker_run.specs.declared.line.Role.{Role}
@@ -16,16 +16,16 @@ use Rattle.walker_run.specs.declared.line.Line.{Line}
 use Rattle.walker_run.specs.declared.line.Line.TheVariants.{TypeTold, Accepted, Usage, FileFault, FileTooLong, TessLine, TessKinds, RulesSyntax, RulesShape, Broken, Spherical, Closed, GaveUp, StoreFault, InputTooLong}
 use Rattle.walker_run.specs.Runs.{Run, call_of}
 use Rattle.walker_run.specs.Lines.{IsOutside, MayStore, status_of, text_of}
-use Rattle.walker_run.specs.Held.{Lesson, Loaded, tess_loaded, rules_loaded, made_rules, IsTess, IsMade}
-use Rattle.walker_run.specs.Due.{CheckRow, check_no_tess, check_no_rules, IsDue, ServesSome, type_told, check_accepted, by_task, Makes, MaySay, due, unread, unstored, Serves, Stores, Fetches}
+use Rattle.walker_run.specs.Held.{Lesson, tess_loaded, rules_loaded, made_rules}
+use Rattle.walker_run.specs.Due.{CheckRow, check_no_tess, check_no_rules, IsDue, ServesSome, type_told, check_accepted, by_task, Makes, MaySay, due, unread, unstored, Stores, Fetches}
 use Rattle.walker_run.specs.Outcome.{Writes, WritesNothing, ComesExactly, Gives, GivesAtOnce, TellsType, TellsAccepted, TellsLearnt}
 use Rattle.walker_run.specs.Promise.{BeginsLine, BeginsFault, IsServing, TellsFileFault, TellsStoreFault, TellsClosed, TellsGiveUp, TellsTaught, StoresRules}
 use Rattle.walker_run.specs.Effects.{End, Says, Opens, Lacks, MayStoreAt}
 use Rattle.walker_run.specs.Ending.{SaysLine, said, unsaid, unwritten, EndsStream, answered, cut_off, over_limit, broken_off, out_of_memory, IsWritten}
 use Rattle.call_words.proofs.OneTask.{one_task}
 use Rattle.walker_run.proofs.Unique.{one_line, never_both, row_of}
-use Rattle.walker_run.proofs.LineKinds.{kind_of, OfFault, refusal_undone, session_kind, tess_kind, done_accepted, due_no_fault}
-use Rattle.walker_run.proofs.Known.{IsReached, Known}
+use Rattle.walker_run.proofs.LineKinds.{kind_of, refusal_undone, session_kind, tess_kind, done_accepted, due_no_fault}
+use Rattle.walker_run.proofs.Known.{Known}
 
 -- the statuses with which only a line that is due comes
 abbrev pub IsOfLine : Status → Type 0

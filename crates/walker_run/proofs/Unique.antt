@@ -1,5 +1,5 @@
 -- To a call at most one line is due, or it serves walkers over one automaton and in the tree of one kind, and never both.
-use Rattle.std.proofs.Common.{◌≡◌, ℕ, ◌<◌, ◌≤◌, List, Option, Some, length, inl, inr, refl, sym, ◌∙◌, ap, subst, arith}
+use Rattle.std.proofs.Common.{◌≡◌, ℕ, ◌<◌, List, length, inl, inr, refl, sym, ap, subst, arith}
 use Rattle.serde_json.specs.Data.{Data}
 use Rattle.tile_model.specs.declared.Letter.{Letter}
 use Rattle.tile_model.specs.Tessellations.{TileKind}
@@ -19,10 +19,10 @@ use Rattle.structure_check.proofs.First.{refutes, one_first}
 use Rattle.call_words.specs.Tasks.{Task, TellType, CheckRules, RunSession, LearnRules, RulesFrom, FromFile, FromTeacher, Ask}
 use Rattle.call_words.proofs.OneTask.{one_task}
 use Rattle.walker_run.specs.declared.line.Line.{Line}
-use Rattle.walker_run.specs.declared.line.Line.TheVariants.{TypeTold, Accepted, Usage, TessLine, TessKinds, RulesShape}
+use Rattle.walker_run.specs.declared.line.Line.TheVariants.{TypeTold, Accepted, TessLine, TessKinds, RulesShape}
 use Rattle.walker_run.specs.Runs.{Call}
 use Rattle.walker_run.specs.Held.{Outcome, Loaded, Refused, Lesson, Holds, HoldsTooMany, IsTess, tess_too_long, tess_line, tess_kinds, tess_loaded, IsRules, rules_too_long, rules_syntax, rules_shape, rules_broken, rules_loaded, broken_at, IsMade, made_spherical, made_rules, made_taught, RulesOf, tess_limit, rules_limit}
-use Rattle.walker_run.specs.Due.{Contents, TypeRow, type_no_tess, type_no_kind, type_told, CheckRow, check_no_tess, check_no_rules, check_accepted, SessionRow, session_no_tess, session_no_kind, session_no_rules, Row, IsDue, no_form, by_task, Serves}
+use Rattle.walker_run.specs.Due.{Contents, TypeRow, type_no_tess, type_no_kind, type_told, CheckRow, check_no_tess, check_no_rules, check_accepted, SessionRow, session_no_tess, session_no_kind, session_no_rules, Row, IsDue, no_form, by_task}
 use Rattle.walker_run.specs.Laws.{OneLineIsDue, OneSessionIsServed, NeverBoth}
 
 -- a file holds one list of bytes, within its limit or not

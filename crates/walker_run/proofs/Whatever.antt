@@ -1,5 +1,5 @@
 -- What is due whatever the teacher answers is due.
-use Rattle.std.proofs.Common.{◌≡◌, ℕ, List, Option, None}
+use Rattle.std.proofs.Common.{ℕ, List, None}
 use Rattle.tile_model.specs.Tessellations.{TileKind}
 use Rattle.tree_model.specs.Automata.{TreeAutomaton}
 use Rattle.call_words.specs.Tasks.{Task, TellType, CheckRules, RunSession, LearnRules, RulesFrom, FromFile, FromTeacher}

@@ -1,5 +1,5 @@
 -- How a run ends, whatever its files, its source and its sink tell.
-use Rattle.std.specs.Prelude.{◌≡◌, ◌⊎◌, ℕ, ◌<◌, ◌≤◌, Bool, IsTrue, List, [], ◌++◌, length}
+use Rattle.std.specs.Prelude.{◌≡◌, ℕ, ◌<◌, ◌≤◌, Bool, IsTrue, List, [], ◌++◌, length}
 use Rattle.line_server.specs.Answering.{Answering, over_walks}
 use Rattle.line_server.specs.Lines.{most_of_stream}
 use Rattle.line_server.specs.Endings.{IsBegun}

@@ -17,7 +17,6 @@ use Rattle.walker_run.specs.declared.status.Status.TheVariants.{Spherical as Sph
 use Rattle.walker_run.specs.declared.status.Status.TheVariants.{Closed as ClosedStatus}
 use Rattle.walker_run.specs.declared.status.Status.TheVariants.{GaveUp as GaveUpStatus}
 use Rattle.walker_run.specs.declared.status.Status.TheVariants.{StoreFault as StoreFaultStatus}
-use Rattle.walker_run.specs.declared.line.Role.{Role}
 use Rattle.walker_run.specs.declared.line.Role.TheVariants.{Tess, Rules}
 use Rattle.walker_run.specs.declared.line.Line.{Line}
 use Rattle.walker_run.specs.declared.line.Line.TheVariants.{TypeTold, Accepted, Usage, FileFault}

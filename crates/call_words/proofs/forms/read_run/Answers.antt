@@ -1,4 +1,4 @@
-use Rattle.std.proofs.Common.{◌≡◌, ◌-◌, ℕ, List, Option, IsTrue, codes, map, take, drop, length, rules, subst, sym}
+use Rattle.std.proofs.Common.{◌≡◌, ◌-◌, ℕ, List, Option, IsTrue, codes, map, take, drop, length, rules, subst}
 use Rattle.std.specs.String.{string_bytes}
 use Rattle.call_words.specs.Options.{value_of}
 use Rattle.call_words.specs.Tasks.{IsOriginOf}

@@ -1,4 +1,4 @@
-use Rattle.std.proofs.Common.{◌≡◌, ◌-◌, ℕ, List, map, take, drop, length, true, false, IsTrue, rules, arith, subst, sym}
+use Rattle.std.proofs.Common.{◌≡◌, ◌-◌, ℕ, List, map, take, drop, length, false, IsTrue, rules, arith, subst, sym}
 use Rattle.std.specs.String.{string_bytes}
 use Rattle.call_words.specs.Options.{IsNew}
 use Rattle.call_words.proofs.Pairs.{refused, passed, same_on, single_refused}

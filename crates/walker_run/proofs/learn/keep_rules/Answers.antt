@@ -1,6 +1,5 @@
-use Rattle.std.proofs.Common.{◌≡◌, inl, inr, List, Some, Err, refl, sym, ap}
+use Rattle.std.proofs.Common.{◌≡◌, inr, Some, Err, ap}
 use Rattle.call_words.specs.Forms.{name_of}
-use Rattle.walker_run.specs.declared.line.Line.TheVariants.{StoreFault}
 use Rattle.walker_run.proofs.learn.keep_rules.Goals as goal
 
 pub returns-in-Err-Failed : goal.returns-in-Err-Failed

@@ -1,4 +1,4 @@
-use Rattle.std.proofs.Common.{◌≡◌, ◌⊎◌, inl, inr, List, Ok, Err, refl, sym, ap, subst}
+use Rattle.std.proofs.Common.{inl, inr, List, Ok, Err, refl, ap}
 use Rattle.tile_model.specs.Tessellations.{TileKind}
 use Rattle.call_words.specs.Tasks.{LearnRules}
 use Rattle.call_words.specs.Forms.{name_of}

@@ -1,4 +1,4 @@
-use Rattle.std.proofs.Common.{◌≡◌, ◌⊎◌, inl, inr, ℕ, List, Err, refl, sym, ap, subst}
+use Rattle.std.proofs.Common.{◌≡◌, inl, inr, ℕ, List, Err, refl, sym, ap, subst}
 use Rattle.serde_json.specs.Data.{Data}
 use Rattle.tree_model.specs.Automata.{TreeAutomaton}
 use Rattle.rules_file.specs.Spelling.{IsTextOf, IsRulesFile}

@@ -1,4 +1,4 @@
-use Rattle.std.proofs.Common.{◌≡◌, ◌⊎◌, inl, inr, ℕ, List, Err, refl, sym, ap, subst}
+use Rattle.std.proofs.Common.{◌≡◌, inl, inr, ℕ, List, Err, sym, ap, subst}
 use Rattle.tess_text.specs.Grammar.{IsFirstBadLine}
 use Rattle.tess_text.specs.Spelling.{IsSpelling, IsRefused, IsFaultOf}
 use Rattle.tess_text.specs.declared.fault.TessFault.{TessFault}

@@ -1,4 +1,4 @@
-use Rattle.std.proofs.Common.{◌≡◌, refl, sym, subst}
+use Rattle.std.proofs.Common.{refl, sym, subst}
 use Rattle.call_words.specs.declared.forms.Form.{Form}
 use Rattle.call_words.specs.Tasks.{TeachesFor}
 use Rattle.call_words.specs.Forms.{task_of, rules_from}

@@ -1,4 +1,4 @@
-use Rattle.std.proofs.Common.{◌≡◌, ◌⊎◌, List, Err, length, sym, ap, subst}
+use Rattle.std.proofs.Common.{◌≡◌, ◌⊎◌, List, Err, length, ap, subst}
 use Rattle.tile_model.specs.Tessellations.{TileKind}
 use Rattle.structure_check.specs.Rules.{TreeRules}
 use Rattle.call_words.specs.Tasks.{CheckRules}

@@ -1,7 +1,6 @@
 use Rattle.std.proofs.Common.{◌<◌, List, Ok, Err, length, refl, sym, ap, subst}
 use Rattle.tile_model.specs.Tessellations.{TileKind}
 use Rattle.call_words.specs.Tasks.{RunSession, FromTeacher}
-use Rattle.walker_run.specs.Held.{Loaded, IsMade}
 use Rattle.walker_run.specs.Due.{session_no_tess, session_no_kind, session_no_rules}
 use Rattle.walker_run.specs.Effects.{lesson_of, fits_row, ServesFor}
 use Rattle.walker_run.proofs.Carrying.{stopped, taught_stopped, opens, kind_fits}
