@@ -1,0 +1,1 @@
+-- Definitions of this crate: none, it has tests alone.
