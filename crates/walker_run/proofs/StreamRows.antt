@@ -28,12 +28,12 @@ use Rattle.walker_run.proofs.Known.{Known, not_of_run}
 use Rattle.walker_run.proofs.TableRows.{SaidSo, Streams, between, silent, begun}
 
 module _ (run : Run) (lesson : Lesson) (answering : Answering) where
-  stream_answered : IsTrue run.source_tells → Streams run lesson answering → IsTrue run.sink_tells → length run.before.left ≤ most_of_stream → ((run.status ≡ Done) × OutputStands answering run.before.left run.after.left run.before.taken run.after.taken) ⊎ IsOutsideOfStream run.status
-  stream_answered gives (answered is within stands) takes few = inl (is, stands gives takes)
-  stream_answered gives (cut_off is stands) takes few = inr (inr is)
-  stream_answered gives (over_limit is more stands) takes few = let lt = more gives in absurd (omega (arith, lt, few))
-  stream_answered gives (broken_off is stands) takes few = inr (inl (between run lesson is tt))
-  stream_answered gives (out_of_memory is stands) takes few = inr (inl (between run lesson is tt))
+  stream_answered : IsTrue run.source_tells → Streams run lesson answering → length run.before.left ≤ most_of_stream → (run.status ≡ Done) ⊎ IsOutsideOfStream run.status
+  stream_answered gives (answered is within stands) few = inl is
+  stream_answered gives (cut_off is stands) few = inr (inr is)
+  stream_answered gives (over_limit is more stands) few = let lt = more gives in absurd (omega (arith, lt, few))
+  stream_answered gives (broken_off is stands) few = inr (inl (between run lesson is tt))
+  stream_answered gives (out_of_memory is stands) few = inr (inl (between run lesson is tt))
 
   stream_over : IsTrue run.source_tells → Streams run lesson answering → most_of_stream < length run.before.left → (run.status ≡ InputTooLong) ⊎ IsOutsideOfStream run.status
   stream_over gives (answered is within stands) many = let few = within gives in absurd (omega (arith, many, few))
@@ -91,13 +91,10 @@ module _ (run : Run) (lesson : Lesson) (outputs_agree : OfEachTree OutputsAgree)
       let by_walks = over_walks kinds a k in
       record {
         answered = stream_answered run lesson by_walks gives ends;
-        answered_over_tree = λ takes few. elim (stream_answered run lesson by_walks gives ends takes few) [
-          | inl done ↦ inl (done.0, stands_over_tree outputs_agree (call_of run lesson) kinds a k run.before.left run.after.left run.before.taken run.after.taken serves accepted done.1)
-          | inr outside ↦ inr outside
-        ];
         refused = stream_over run lesson by_walks gives ends;
         over_limit = stream_long run lesson by_walks gives ends;
         at_done = stream_done run lesson by_walks gives ends;
+        at_done_over_tree = λ takes done. stands_over_tree outputs_agree (call_of run lesson) kinds a k run.before.left run.after.left run.before.taken run.after.taken serves accepted (stream_done run lesson by_walks gives ends takes done);
         at_read_fault = stream_cut run lesson by_walks gives ends;
         at_input_too_long = stream_refused run lesson by_walks gives ends;
         at_write_fault = λ takes broke. inl (stream_broken run lesson by_walks gives ends takes broke);
@@ -107,11 +104,11 @@ module _ (run : Run) (lesson : Lesson) (outputs_agree : OfEachTree OutputsAgree)
   -- the commands were not read, for a cause of the outside or of memory
   stream_unread : (kinds : List TileKind) (a : TreeAutomaton) (k : ℕ) → IsOutside run.status → (run.status ≡ WriteFault → (role : Role) × BeginsLine run lesson (FileFault role)) → (run.status ≡ Memory → WritesNothing run) → AnswersStream run lesson kinds a k
   stream_unread kinds a k outside broken silent = record {
-    answered = λ takes few. inr (inl outside);
-    answered_over_tree = λ takes few. inr (inl outside);
+    answered = λ few. inr (inl outside);
     refused = λ many. inr (inl outside);
     over_limit = λ long. absurd (subst IsOutside long outside);
     at_done = λ takes done. absurd (subst IsOutside done outside);
+    at_done_over_tree = λ takes done. absurd (subst IsOutside done outside);
     at_read_fault = λ takes read. absurd (subst IsOutside read outside);
     at_input_too_long = λ takes long. absurd (subst IsOutside long outside);
     at_write_fault = λ takes broke. inr (broken broke);

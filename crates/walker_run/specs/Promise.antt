@@ -71,30 +71,23 @@ pub record BeginsLine (run : Run) (lesson : Lesson) (line : Line) : Type 0 where
 pub record AnswersStream
     (run : Run) (lesson : Lesson) (kinds : List TileKind) (a : TreeAutomaton) (k : ℕ) :
     Type 0 where
-  -- The promise: Done, and exactly the output of the whole input, unless the outside or memory
-  -- fails.
+  -- The promise: Done, unless the outside or memory fails, whatever the sink tells.
   pub answered :
-      IsTrue run.sink_tells → length run.before.left ≤ most_of_stream
-      → ((run.status ≡ Done)
-      × OutputStands (over_walks kinds a k)
-      run.before.left run.after.left run.before.taken run.after.taken)
-      ⊎ IsOutsideOfStream run.status
-  -- The same, where it is the tree of the rules that tells which replies are due.
-  pub answered_over_tree :
-      IsTrue run.sink_tells → length run.before.left ≤ most_of_stream
-      → ((run.status ≡ Done)
-      × OutputStands (over_tree kinds a k)
-      run.before.left run.after.left run.before.taken run.after.taken)
-      ⊎ IsOutsideOfStream run.status
+      length run.before.left ≤ most_of_stream → (run.status ≡ Done) ⊎ IsOutsideOfStream run.status
   -- InputTooLong comes where the input is over its limit, unless the outside or memory fails.
   pub refused :
       most_of_stream < length run.before.left
       → (run.status ≡ InputTooLong) ⊎ IsOutsideOfStream run.status
   pub over_limit : run.status ≡ InputTooLong → most_of_stream < length run.before.left
-  -- What stands written at each status: the output of the whole input,
+  -- What stands written at each status: at Done exactly the output of the whole input,
   pub at_done :
       IsTrue run.sink_tells → run.status ≡ Done
       → OutputStands (over_walks kinds a k)
+      run.before.left run.after.left run.before.taken run.after.taken
+  -- also where it is the tree of the rules that tells which replies are due,
+  pub at_done_over_tree :
+      IsTrue run.sink_tells → run.status ≡ Done
+      → OutputStands (over_tree kinds a k)
       run.before.left run.after.left run.before.taken run.after.taken
   -- the output of the whole lines that were read,
   pub at_read_fault :
