@@ -1,5 +1,6 @@
 -- To a call at most one line is due, or it serves walkers over one automaton and in the tree of one kind, and never both.
-use Rattle.std.proofs.Common.{◌≡◌, ℕ, ◌<◌, List, length, inl, inr, refl, sym, ap, subst, arith}
+use Rattle.std.proofs.Common.{◌≡◌, ℕ, ◌<◌, ◌⊎◌, List, length, inl, inr, refl, sym, ap, subst, arith}
+use Rattle.std.specs.declared.result.Result.TheVariants.{Err}
 use Rattle.serde_json.specs.Data.{Data}
 use Rattle.tile_model.specs.declared.Letter.{Letter}
 use Rattle.tile_model.specs.Tessellations.{TileKind}
@@ -8,8 +9,8 @@ use Rattle.tile_model.specs.declared.fault.KindFault.{KindFault}
 use Rattle.tree_model.specs.Automata.{TreeAutomaton}
 use Rattle.tess_text.specs.Grammar.{IsFirstBadLine}
 use Rattle.tess_text.specs.Spelling.{IsSpelling, IsRefused}
-use Rattle.tess_text.specs.declared.fault.TessFault.TheVariants.{Kinds}
-use Rattle.tess_text.proofs.OneAnswer.{line_same, no_bad_line, spelling_same, only_fault, not_refused}
+use Rattle.tess_text.specs.declared.fault.TessFault.TheVariants.{Kinds, Memory}
+use Rattle.tess_text.proofs.OneAnswer.{line_same, no_bad_line, spelling_same, answer_fault, not_refused}
 use Rattle.rules_file.specs.declared.fault.Part.{Part}
 use Rattle.rules_file.specs.Spelling.{IsTextOf, IsRulesFile}
 use Rattle.rules_file.specs.Faults.{IsFirstFault, FailsAt}
@@ -44,16 +45,18 @@ module _ (contents : Contents) (file : List ℕ) where
   line_or_kinds : (bytes other : List ℕ) (n : ℕ) (fault : KindFault) → Holds contents file tess_limit bytes → Holds contents file tess_limit other → IsFirstBadLine bytes n → IsRefused other fault → ⊥
   line_or_kinds bytes other n fault one two bad refused =
       let here : IsRefused bytes fault = subst (λ (b : List ℕ). IsRefused b fault) (one_bytes contents file tess_limit bytes other one two) refused in
-      no_bad_line bytes n here.spelling.grammar bad
+      no_bad_line bytes n here.says.grammar bad
 
   line_or_loaded : (bytes other : List ℕ) (n : ℕ) (kinds : List TileKind) → Holds contents file tess_limit bytes → Holds contents file tess_limit other → IsFirstBadLine bytes n → IsSpelling other kinds → ⊥
   line_or_loaded bytes other n kinds one two bad spelling =
       let here : IsSpelling bytes kinds = subst (λ (b : List ℕ). IsSpelling b kinds) (one_bytes contents file tess_limit bytes other one two) spelling in
-      no_bad_line bytes n here.grammar bad
+      no_bad_line bytes n here.says.grammar bad
 
   same_fault : (bytes other : List ℕ) (fault worse : KindFault) → Holds contents file tess_limit bytes → Holds contents file tess_limit other → IsRefused bytes fault → IsRefused other worse → fault ≡ worse
   same_fault bytes other fault worse one two refused also =
-      elim (only_fault bytes (Kinds fault) worse refused (subst (λ (b : List ℕ). IsRefused b worse) (one_bytes contents file tess_limit bytes other one two) also)) [
+      let here = subst (λ (b : List ℕ). IsRefused b worse) (one_bytes contents file tess_limit bytes other one two) also in
+      let both : (Kinds fault ≡ Kinds worse) ⊎ (Kinds fault ≡ Memory) = answer_fault bytes (Err (Kinds fault)) worse refused here in
+      elim both [
         | inl same ↦ cc same
         | inr memory ↦ absurd (cc memory)
       ]
