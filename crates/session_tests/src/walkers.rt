@@ -215,8 +215,14 @@ fn tiles_with_a_text_are_counted(rt: HostRuntime) -> Result<(), Fail> {
     let mut session = Session::new(alloc, &rules, 0)?;
     answer(&mut session, &Command::New(0))?;
     assert_eq!(rt; session.written(), 0);
-    answer(&mut session, &Command::Put(0, Bytes::copy_of(alloc, b"red")?))?;
-    answer(&mut session, &Command::Put(0, Bytes::copy_of(alloc, b"blue")?))?;
+    answer(
+        &mut session,
+        &Command::Put(0, Bytes::copy_of(alloc, b"red")?),
+    )?;
+    answer(
+        &mut session,
+        &Command::Put(0, Bytes::copy_of(alloc, b"blue")?),
+    )?;
     assert_eq!(rt; session.written(), 1);
     answer(&mut session, &Command::Go(0, walk(alloc, &[X])?))?;
     answer(&mut session, &Command::Put(0, Bytes::copy_of(alloc, b"")?))?;
