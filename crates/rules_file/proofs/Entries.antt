@@ -1,69 +1,85 @@
--- Reading the entries of an array, one after another.
-use Rattle.std.proofs.Common.{◌≡◌, ℕ, zero, suc, ◌+◌, ◌<◌, ◌≤◌, List, [], ◌∷◌, ◌++◌, length, get_or, drop, Some, sym, ap, ◌∙◌, subst, arith, append_assoc, append-nil, inl, inr, ◌⊎◌}
+-- Taking the entries of an array, one after another.
+use Rattle.std.proofs.Common.{◌≡◌, ℕ, zero, suc, ◌+◌, ◌<◌, ◌≤◌, List, [], ◌∷◌, ◌++◌, length, Option, Some, None, refl, sym, ap, ◌∙◌, subst, arith, append_assoc, append-nil, length-append, inl, inr, ◌⊎◌}
 use Rattle.std.proofs.lemmas.Bool.{cases_lt}
+use Rattle.json.specs.Token.{Token}
+use Rattle.json.specs.Json.{parse_map, after_end_array}
 use Rattle.serde_json.specs.Data.{Data, array, Items, no_items, item}
-use Rattle.serde_json.specs.Find.{get, get_item, as_array}
-use Rattle.serde_json.specs.View.{view, items_view}
-use Rattle.serde_json.specs.declared.value.Value.{Value}
-use Rattle.serde_json.specs.Events.{items_len}
-use Rattle.serde_json.proofs.Views.{get_item_within, items_len-items_view}
+use Rattle.serde_json.specs.Find.{get_item}
 use Rattle.tree_model.specs.declared.Claim.{Claim}
-use Rattle.rules_file.specs.Spelling.{whole, pair_json, SpellEach, SpellsArray, SpellsMember, IsFirstMisfit}
+use Rattle.rules_file.specs.Spelling.{pair_json, SpellEach, SpellsArray, SpellsPair, IsFirstMisfit}
+use Rattle.rules_file.specs.Taking.{items_read, value_at, items_at, HasValue, HasItems}
+use Rattle.rules_file.proofs.Taking.{items_done, items_next, items_are_at}
 
--- the first i values have been read: what the others spell goes behind what was found
-pub record HasRead {A : Type 0} (Spells : Data → A → Type 0) (vs : List Value) (found : List A) (i : ℕ) : Type 0 where
-  pub rest : (ys : List A) → SpellEach Spells (items_view (drop i vs)) ys → SpellEach Spells (items_view vs) (found ++ ys)
-  pub before : (j : ℕ) → j < i → (e : Data) → get_item j (items_view vs) ≡ Some e → (x : A) × Spells e x
+-- the entries up to `now` spell what was found: what the others spell goes behind it
+pub record HasTaken {A : Type 0} (Spells : Data → A → Type 0) (depth : ℕ) (start now : List Token) (found : List A) : Type 0 where
+  pub front : Items → Items
+  pub reads : items_read depth start ≡ parse_map front (items_read depth now)
+  pub spelt : (ds : Items) (ys : List A) → SpellEach Spells ds ys → SpellEach Spells (front ds) (found ++ ys)
+  pub before : (ds : Items) (j : ℕ) (e : Data) → j < length found → get_item j (front ds) ≡ Some e → (x : A) × Spells e x
+  pub at : (ds : Items) (j k : ℕ) → k ≡ length found + j → get_item k (front ds) ≡ get_item j ds
 
-items_view-drop : (vs : List Value) (i : ℕ) (v : Value) → i < length vs → v ≡ get_or vs i v → items_view (drop i vs) ≡ item (view v) (items_view (drop (suc i) vs))
-items_view-drop [] i v l e = absurd (omega arith)
-items_view-drop (u ∷ vs) zero v l e = ap (λ w. item (view w) (items_view vs)) (sym e)
-items_view-drop (u ∷ vs) (suc i) v l e = items_view-drop vs i v (omega arith) e
+itself : (r : Option (Items × List Token)) → r ≡ parse_map (λ ds. ds) r
+itself None = refl
+itself (Some p) = refl
 
-same_entry : (vs : List Value) (i : ℕ) (v : Value) (e : Data) → i < length vs → v ≡ get_or vs i v → get_item i (items_view vs) ≡ Some e → view v ≡ e
-same_entry [] i v e l is found = absurd (omega arith)
-same_entry (u ∷ vs) zero v e l is found = cc
-same_entry (u ∷ vs) (suc i) v e l is found = same_entry vs i v e (omega arith) is found
+pub under : (f g : Items → Items) (o r : Option (Items × List Token)) → o ≡ parse_map g r → parse_map f o ≡ parse_map (λ ds. f (g ds)) r
+under f g o None e = ap (parse_map f) e
+under f g o (Some p) e = ap (parse_map f) e
 
-entry_at : (vs : List Value) (i : ℕ) (v : Value) → i < length vs → v ≡ get_or vs i v → get_item i (items_view vs) ≡ Some (view v)
-entry_at vs i v l is = sym (get_item_within vs i v l) ∙ ap (λ u. Some (view u)) (sym is)
-
-none_left : {A : Type 0} (Spells : Data → A → Type 0) (vs : List Value) (i : ℕ) → length vs ≤ i → SpellEach Spells (items_view (drop i vs)) []
-none_left Spells [] zero l = tt
-none_left Spells [] (suc i) l = tt
-none_left Spells (v ∷ vs) zero l = absurd (omega arith)
-none_left Spells (v ∷ vs) (suc i) l = none_left Spells vs i (omega arith)
-
-pub HasRead-none : {A : Type 0} (Spells : Data → A → Type 0) (vs : List Value) (found : List A) → found ≡ [] → HasRead Spells vs found 0
-HasRead-none Spells vs found e = record {
-  rest = λ ys h. subst (λ xs. SpellEach Spells (items_view vs) (xs ++ ys)) (sym e) h;
-  before = λ j l. absurd (omega arith);
+pub HasTaken-none : {A : Type 0} (Spells : Data → A → Type 0) (depth : ℕ) (ts : List Token) (found : List A) → found ≡ [] → HasTaken Spells depth ts ts found
+HasTaken-none Spells depth ts found e = record {
+  front = λ ds. ds;
+  reads = itself _;
+  spelt = λ ds ys h. subst (λ xs. SpellEach Spells ds (xs ++ ys)) (sym e) h;
+  before = λ ds j d l. absurd (omega (arith, ap length e));
+  at = λ ds j k is. ap (λ n. get_item n ds) (omega (arith, ap length e));
 }
 
-pub HasRead-more : {A : Type 0} (Spells : Data → A → Type 0) (vs : List Value) (found more : List A) (i : ℕ) (v : Value) (x : A)
-    → i < length vs → v ≡ get_or vs i v → Spells (view v) x → more ≡ found ++ x ∷ [] → HasRead Spells vs found i → HasRead Spells vs more (i + 1)
-HasRead-more {A = A} Spells vs found more i v x l is spelt e h =
-    let next : i + 1 ≡ suc i = omega arith in
+pub HasTaken-more : {A : Type 0} (Spells : Data → A → Type 0) (depth : ℕ) (start now r : List Token) (found more : List A) (x : A)
+    → after_end_array now ≡ None → HasValue depth now r → Spells (value_at depth now) x → more ≡ found ++ x ∷ [] → HasTaken Spells depth start now found → HasTaken Spells depth start r more
+HasTaken-more {A = A} Spells depth start now r found more x going has spells e h =
+    let d = value_at depth now in
+    let longer : length more ≡ suc (length found) = omega (arith, ap length e, length-append found (x ∷ [])) in
     record {
-      rest = λ ys k.
-          let k' = subst (λ n. SpellEach Spells (items_view (drop n vs)) ys) next k in
-          let whole = h.rest (x ∷ ys) (subst (λ ds. SpellEach Spells ds (x ∷ ys)) (sym (items_view-drop vs i v l is)) (spelt, k')) in
-          subst (SpellEach Spells (items_view vs)) (sym (ap (λ xs. xs ++ ys) e ∙ append_assoc found (x ∷ []) ys)) whole;
-      before = λ j m d at. earlier j d m at (cases_lt j i);
+      front = λ ds. h.front (item d ds);
+      reads = h.reads ∙ under h.front (item d) _ _ (items_next depth now r d going has);
+      spelt = λ ds ys k. subst (SpellEach Spells (h.front (item d ds))) (sym (ap (λ xs. xs ++ ys) e ∙ append_assoc found (x ∷ []) ys)) (h.spelt (item d ds) (x ∷ ys) (spells, k));
+      before = λ ds j u l at. earlier ds j u (omega (arith, l, longer)) at (cases_lt j (length found));
+      at = λ ds j k is. h.at (item d ds) (suc j) k (omega (arith, is, longer));
     }
   where
-    earlier : (j : ℕ) (d : Data) → j < i + 1 → get_item j (items_view vs) ≡ Some d → (j < i) ⊎ (i ≤ j) → (y : A) × Spells d y
-    earlier j d m at (inl below) = h.before j below d at
-    earlier j d m at (inr past) =
-        let here : j ≡ i = omega arith in
-        (x, subst (λ u. Spells u x) (same_entry vs i v d l is (ap (λ n. get_item n (items_view vs)) (sym here) ∙ at)) spelt)
+    earlier : (ds : Items) (j : ℕ) (u : Data) → j < suc (length found) → get_item j (h.front (item (value_at depth now) ds)) ≡ Some u → (j < length found) ⊎ (length found ≤ j) → (y : A) × Spells u y
+    earlier ds j u l at (inl below) = h.before (item (value_at depth now) ds) j u below at
+    earlier ds j u l at (inr past) =
+        let here : get_item j (h.front (item (value_at depth now) ds)) ≡ Some (value_at depth now) = h.at (item (value_at depth now) ds) 0 j (omega arith) in
+        let same : value_at depth now ≡ u = cc in
+        (x, subst (λ v. Spells v x) same spells)
 
-pub HasRead-all : {A : Type 0} (Spells : Data → A → Type 0) (vs : List Value) (found : List A) (i : ℕ) → length vs ≤ i → HasRead Spells vs found i → SpellEach Spells (items_view vs) found
-HasRead-all Spells vs found i l h = subst (SpellEach Spells (items_view vs)) (append-nil found) (h.rest [] (none_left Spells vs i l))
+pub HasTaken-all : {A : Type 0} (Spells : Data → A → Type 0) (depth : ℕ) (start now r : List Token) (found : List A)
+    → after_end_array now ≡ Some r → HasTaken Spells depth start now found → HasItems depth start r × SpellEach Spells (items_at depth start) found
+HasTaken-all Spells depth start now r found over h =
+    let all = items_are_at depth start r (h.front no_items) (h.reads ∙ ap (parse_map h.front) (items_done depth now r over)) in
+    (all.0, subst (λ ds. SpellEach Spells ds found) (sym all.1) (subst (SpellEach Spells (h.front no_items)) (append-nil found) (h.spelt no_items [] tt)))
 
-pub HasRead-misfit : {A : Type 0} (Spells : Data → A → Type 0) (vs : List Value) (found : List A) (i : ℕ) (v : Value)
-    → i < length vs → v ≡ get_or vs i v → ((x : A) → ¬ Spells (view v) x) → HasRead Spells vs found i → IsFirstMisfit Spells (items_view vs) i
-HasRead-misfit Spells vs found i v l is bad h = record { entry = view v; at = entry_at vs i v l is; bad = bad; before = h.before }
+pub HasTaken-misfit : {A : Type 0} (Spells : Data → A → Type 0) (depth : ℕ) (start now mid r : List Token) (found : List A)
+    → after_end_array now ≡ None → HasValue depth now mid → ((x : A) → ¬ Spells (value_at depth now) x) → HasItems depth mid r → HasTaken Spells depth start now found
+    → HasItems depth start r × IsFirstMisfit Spells (items_at depth start) (length found)
+HasTaken-misfit Spells depth start now mid r found going has bad rest h =
+    let d = value_at depth now in
+    let ds = items_at depth mid in
+    let all = items_are_at depth start r (h.front (item d ds)) (h.reads ∙ ap (parse_map h.front) (items_next depth now mid d going has ∙ ap (parse_map (item d)) rest)) in (
+      all.0,
+      subst (λ es. IsFirstMisfit Spells es (length found)) (sym all.1) (record {
+        entry = d;
+        at = h.at (item d ds) 0 (length found) (omega arith);
+        bad = bad;
+        before = λ j l e at. h.before (item d ds) j e l at;
+      }),
+    )
+
+pub HasTaken-broken : {A : Type 0} (Spells : Data → A → Type 0) (depth : ℕ) (start now : List Token) (found : List A)
+    → items_read depth now ≡ None → HasTaken Spells depth start now found → items_read depth start ≡ None
+HasTaken-broken Spells depth start now found none h = h.reads ∙ ap (parse_map h.front) none
 
 -- an entry of what spells a list spells an element
 pub entry_spells : {A : Type 0} (Spells : Data → A → Type 0) (ds : Items) (xs : List A) (i : ℕ) (e : Data) → SpellEach Spells ds xs → get_item i ds ≡ Some e → (x : A) × Spells e x
@@ -76,23 +92,7 @@ entry_spells Spells (item d ds) (x ∷ xs) (suc i) e h at = entry_spells Spells 
 pub misfit_spells_none : {A : Type 0} (Spells : Data → A → Type 0) (ds : Items) (i : ℕ) (xs : List A) → IsFirstMisfit Spells ds i → ¬ SpellEach Spells ds xs
 misfit_spells_none Spells ds i xs h k = let e = entry_spells Spells ds xs i h.entry k h.at in h.bad e.0 e.1
 
--- ---- pairs
-
-pub pair_items : (vs : List Value) (d : Data) (c : Claim) → Some (items_view vs) ≡ as_array d → d ≡ pair_json c → items_view vs ≡ item (whole c.corner) (item (whole c.place) no_items)
-pair_items vs d c e is = cc
-
-pub pair_length : (vs : List Value) (x y : Data) → items_view vs ≡ item x (item y no_items) → length vs ≡ 2
-pair_length vs x y e = sym (items_len-items_view vs) ∙ ap items_len e
-
-pub pair_second : (vs : List Value) (v : Value) (x y : Data) → items_view vs ≡ item x (item y no_items) → v ≡ get_or vs 1 v → view v ≡ y
-pair_second vs v x y e is =
-    let two = pair_length vs x y e in
-    same_entry vs 1 v y (omega arith) is (ap (get_item 1) e)
-
--- ---- members
-
-pub list_spells_none : {A : Type 0} (Spells : Data → A → Type 0) (name : List ℕ) (d : Data) (ds : Items) (i : ℕ) (xs : List A)
-    → get name d ≡ Some (array ds) → IsFirstMisfit Spells ds i → ¬ SpellsMember (SpellsArray Spells) name d xs
-list_spells_none Spells name d ds i xs found bad (e, got, (es, is, each)) =
-    let same : ds ≡ es = cc in
-    misfit_spells_none Spells ds i xs bad (subst (λ us. SpellEach Spells us xs) (sym same) each)
+pub misfit_no_array : {A : Type 0} (Spells : Data → A → Type 0) (d : Data) (ds : Items) (i : ℕ) (xs : List A) → d ≡ array ds → IsFirstMisfit Spells ds i → ¬ SpellsArray Spells d xs
+misfit_no_array Spells d ds i xs is h (es, also, each) =
+    let same : es ≡ ds = cc in
+    misfit_spells_none Spells ds i xs h (subst (λ us. SpellEach Spells us xs) same each)

@@ -1,6 +1,11 @@
 -- Lemmas of this crate.
+pub mod Conversion
+pub mod Taking
 pub mod Entries
+pub mod Pairs
+pub mod Kept
 pub mod Failures
+pub mod Fitting
 pub mod Sizes
 pub mod Floats
 pub mod Unique

@@ -1,5 +1,5 @@
 -- A JSON value spells one automaton at most, and has one first failure at most, and never both.
-use Rattle.std.proofs.Common.{◌≡◌, Bool, ℕ, zero, suc, ◌<◌, ◌≤◌, ℤ, pos, negsuc, List, [], ◌∷◌, get_or, Some, codes, refl, sym, ap, ap₂, ◌∙◌, subst, arith, inl, inr, ◌⊎◌, Result, Ok, Err, IfOk, IfErr, MatchResult}
+use Rattle.std.proofs.Common.{◌≡◌, Bool, ℕ, zero, suc, ◌<◌, ◌≤◌, ℤ, pos, negsuc, List, [], ◌∷◌, get_or, Option, Some, None, codes, refl, sym, ap, ap₂, ◌∙◌, subst, arith, inl, inr, ◌⊎◌, Result, Ok, Err, OnOk, IfOk, IfErr, MatchResult}
 use Rattle.std.proofs.lemmas.Bool.{cases_lt}
 use Rattle.serde_json.specs.Data.{Data, null, boolean, number, string, array, object, Items, no_items, item}
 use Rattle.serde_json.specs.Find.{get}
@@ -12,7 +12,9 @@ use Rattle.rules_file.specs.declared.fault.RulesFault.{RulesFault}
 use Rattle.rules_file.specs.declared.fault.RulesFault.TheVariants.{Syntax, Shape, Memory}
 use Rattle.serde_json.specs.Read.{read}
 use Rattle.rules_file.specs.Spelling.{offset_json, rule_json, pair_json, SpellsByte, SpellsWord, SpellsOffset, SpellsRule, SpellsPair, SpellEach, SpellsArray, SpellsMember, SpellsCorner, SpellsState, SpellsTables, IsTextOf, IsRulesFile}
-use Rattle.rules_file.specs.Faults.{IsNoObject, FailsAt, turn, IsFirstFault, Refuses}
+use Rattle.rules_file.specs.Faults.{IsNoObject, FailsAt, turn, IsFirstFault}
+use Rattle.rules_file.specs.Taking.{text_value}
+use Rattle.rules_file.specs.Parts.{RefusesText}
 use Rattle.rules_file.proofs.Failures.{Cleared, one_version, cleared_scale, cleared_roots, cleared_corners, cleared_states}
 
 -- no value spells two things
@@ -114,7 +116,7 @@ tables_exact d x y h k =
 
 -- ---- failures
 
-object_with : (name : List ℕ) (d e : Data) → get name d ≡ Some e → ¬ IsNoObject d
+pub object_with : (name : List ℕ) (d e : Data) → get name d ≡ Some e → ¬ IsNoObject d
 object_with name null e h none = absurd (cc)
 object_with name (boolean b) e h none = absurd (cc)
 object_with name (number n) e h none = absurd (cc)
@@ -182,23 +184,27 @@ one_first_fault d p q i j h k = go (cases_lt (turn p) (turn q)) (cases_lt (turn 
 same_value : (bytes : List ℕ) (d e : Data) → read bytes ≡ Some d → IsTextOf bytes e → e ≡ d
 same_value bytes d e is text = let also = text.value in cc
 
-pub complete_answer : (bytes : List ℕ) (d : Data) (r : Result TreeAutomaton RulesFault) (a : TreeAutomaton) → read bytes ≡ Some d → IfOk r (SpellsTables d) → IfErr r (Refuses d)
-    → IsRulesFile bytes a → MatchResult r (λ b. b ≡ a) (λ e. e ≡ Memory)
-complete_answer bytes d (Ok b) a is ok err (e, text, spelt) = tables_exact d b a ok (subst (λ u. SpellsTables u a) (same_value bytes d e is text) spelt)
-complete_answer bytes d (Err Syntax) a is ok err file = absurd err
-complete_answer bytes d (Err (Shape part i)) a is ok err (e, text, spelt) =
-    absurd (spelt_no_failure d a part i (subst (λ u. SpellsTables u a) (same_value bytes d e is text) spelt) err.fails)
-complete_answer bytes d (Err Memory) a is ok err file = refl
+not_both : {u : Data} {o : Option Data} → o ≡ None → o ≡ Some u → ⊥
+not_both p q = absurd (cc)
 
-pub misshapen_answer : (bytes : List ℕ) (d e : Data) (r : Result TreeAutomaton RulesFault) (part : Part) (i : ℕ) → read bytes ≡ Some d → IfOk r (SpellsTables d) → IfErr r (Refuses d)
+pub complete_answer : (text bytes : List ℕ) (r : Result TreeAutomaton RulesFault) (a : TreeAutomaton) → text ≡ bytes → OnOk r (read text ≡ Some (text_value text)) → IfOk r (SpellsTables (text_value text)) → IfErr r (RefusesText text)
+    → IsRulesFile bytes a → MatchResult r (λ b. b ≡ a) (λ e. e ≡ Memory)
+complete_answer text bytes (Ok b) a same is ok err (e, t, spelt) =
+    tables_exact (text_value text) b a ok (subst (λ u. SpellsTables u a) (same_value bytes (text_value text) e (ap read (sym same) ∙ is) t) spelt)
+complete_answer text bytes (Err Syntax) a same is ok err (e, t, spelt) = absurd (not_both (ap read (sym same) ∙ err) t.value)
+complete_answer text bytes (Err (Shape part i)) a same is ok err (e, t, spelt) =
+    absurd (spelt_no_failure (text_value text) a part i (subst (λ u. SpellsTables u a) (same_value bytes (text_value text) e (ap read (sym same) ∙ err.0) t) spelt) err.1.fails)
+complete_answer text bytes (Err Memory) a same is ok err file = refl
+
+pub misshapen_answer : (text bytes : List ℕ) (e : Data) (r : Result TreeAutomaton RulesFault) (part : Part) (i : ℕ) → text ≡ bytes → OnOk r (read text ≡ Some (text_value text)) → IfOk r (SpellsTables (text_value text)) → IfErr r (RefusesText text)
     → IsTextOf bytes e → IsFirstFault e part i → (r ≡ Err (Shape part i)) ⊎ (r ≡ Err Memory)
-misshapen_answer bytes d e (Ok b) part i is ok err text fault =
-    absurd (spelt_no_failure d b part i ok (subst (λ u. FailsAt part i u) (same_value bytes d e is text) fault.fails))
-misshapen_answer bytes d e (Err Syntax) part i is ok err text fault = absurd err
-misshapen_answer bytes d e (Err (Shape p j)) part i is ok err text fault =
-    let same = one_first_fault d p part j i err (subst (λ u. IsFirstFault u part i) (same_value bytes d e is text) fault) in
-    inl (ap₂ (λ q k. Err (Shape q k)) same.0 same.1)
-misshapen_answer bytes d e (Err Memory) part i is ok err text fault = inr refl
+misshapen_answer text bytes e (Ok b) part i same is ok err t fault =
+    absurd (spelt_no_failure (text_value text) b part i ok (subst (λ u. FailsAt part i u) (same_value bytes (text_value text) e (ap read (sym same) ∙ is) t) fault.fails))
+misshapen_answer text bytes e (Err Syntax) part i same is ok err t fault = absurd (not_both (ap read (sym same) ∙ err) t.value)
+misshapen_answer text bytes e (Err (Shape p j)) part i same is ok err t fault =
+    let one = one_first_fault (text_value text) p part j i err.1 (subst (λ u. IsFirstFault u part i) (same_value bytes (text_value text) e (ap read (sym same) ∙ err.0) t) fault) in
+    inl (ap₂ (λ q k. Err (Shape q k)) one.0 one.1)
+misshapen_answer text bytes e (Err Memory) part i same is ok err t fault = inr refl
 
 pub file_exact : (bytes : List ℕ) (a b : TreeAutomaton) → IsRulesFile bytes a → IsRulesFile bytes b → a ≡ b
 file_exact bytes a b (d, text, spelt) (e, also, also_spelt) =

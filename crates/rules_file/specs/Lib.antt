@@ -1,3 +1,5 @@
 pub mod Spelling
 pub mod Faults
 pub mod Ranges
+pub mod Taking
+pub mod Parts

@@ -1,5 +1,5 @@
 //! Why a rules file is refused.
-use std::alloc::AllocError;
+use crate::take::Unread;
 use thiserror::Error;
 
 /// The parts of a rules file, in the order in which their shape is tried.
@@ -27,13 +27,16 @@ pub enum RulesFault {
     Memory,
 }
 
-impl From<AllocError> for RulesFault {
-    ghost use Rattle.rules_file.specs.declared.fault.RulesFault.TheVariants.{Memory};
+impl From<Unread> for RulesFault {
+    ghost use Rattle.rules_file.specs.Parts.{fault_of};
     ghost use Rattle.std.specs.Prelude.{◌≡◌};
 
-    ghost from_gives = { λ _ e. e ≡ Memory };
+    ghost from_gives = { λ u e. e ≡ fault_of u };
 
-    fn from(_refused: AllocError) -> RulesFault {
-        RulesFault::Memory
+    fn from(refused: Unread) -> RulesFault {
+        match refused {
+            Unread::Syntax => RulesFault::Syntax,
+            Unread::Memory => RulesFault::Memory,
+        }
     }
 }

@@ -5,8 +5,10 @@
 mod entry;
 mod fault;
 mod laws;
+mod number;
 mod print;
 mod read;
+mod take;
 
 pub use fault::{Part, RulesFault};
 pub use laws::{canonical_text_law, one_automaton_law};

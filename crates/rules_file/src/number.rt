@@ -1,0 +1,50 @@
+//! The number that a token of JSON writes.
+ghost use Rattle.std.specs.Prelude.{◌≡◌, ◌<◌, ◌==◌, length, slice_index, option_map, true, false, IsTrue};
+ghost use Rattle.serde_json.specs.Read.{number_of, number_from, float_of};
+ghost use Rattle.serde_json.specs.View.{number_view};
+
+use fast_float::Numeral;
+use serde_json::Number;
+
+/// The value of a number's text; None where it is too large for a float.
+pub(crate) fn number(text: &str) -> Option<Number>
+    ensures { option_map number_view result ≡ number_of text.now }
+{
+    let bytes = text.as_bytes();
+    if has_minus(bytes) {
+        below_zero(&Numeral::scan(&bytes[1..]))
+    } else {
+        not_below_zero(&Numeral::scan(bytes))
+    }
+}
+
+fn has_minus(bytes: &[u8]) -> bool
+    ensures value { result ≡ (slice_index bytes.now 0 == 45) }
+    ensures some { IsTrue result → 0 < length bytes.now }
+{
+    !bytes.is_empty() && bytes[0] == b'-'
+}
+
+fn not_below_zero(numeral: &Numeral<'_>) -> Option<Number>
+    ensures { option_map number_view result ≡ number_from false numeral.now }
+{
+    match numeral.to_u64() {
+        Some(n) => Some(Number::from(n)),
+        None => nearest(false, numeral),
+    }
+}
+
+fn below_zero(numeral: &Numeral<'_>) -> Option<Number>
+    ensures { option_map number_view result ≡ number_from true numeral.now }
+{
+    match numeral.to_i64(true) {
+        Some(n) if n < 0 => Some(Number::from(n)),
+        _ => nearest(true, numeral),
+    }
+}
+
+fn nearest(negative: bool, numeral: &Numeral<'_>) -> Option<Number>
+    ensures { option_map number_view result ≡ float_of negative numeral.now }
+{
+    Number::from_f64(numeral.to_float::<f64>(negative))
+}
