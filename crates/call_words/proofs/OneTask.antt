@@ -4,7 +4,7 @@ use Rattle.std.specs.Str.Parse.{digits_value}
 use Rattle.tile_model.specs.WalkTexts.{walk_text}
 use Rattle.tile_model.proofs.WalkTexts.{one_walk}
 use Rattle.call_words.specs.Options.{value_of}
-use Rattle.call_words.specs.Tasks.{Task, TellType, CheckRules, RunSession, LearnRules, Ask, IsCells, AreCellsOf, IsOriginOf, RulesFrom, FromFile, FromTeacher, AskInRange, AreCells, IsInRange}
+use Rattle.call_words.specs.Tasks.{Task, TellType, CheckRules, RunSession, LearnRules, MergeRules, Ask, IsCells, AreCellsOf, IsOriginOf, RulesFrom, FromFile, FromTeacher, AskInRange, AreCells, IsInRange}
 
 -- the letter at a place of the first word
 abbrev pub letter : ℕ → List (List ℕ) → ℕ
@@ -63,6 +63,7 @@ one_task words (LearnRules tess cells out) (LearnRules tess' cells' out') one tw
     let same_cells : cells ≡ cells' = same_cells_of one.options two.options cells cells' options one.most two.most in
     let same_out : out ≡ out' = sym one.stored ∙ ap (λ (x : List (List ℕ)). value_of (codes "--out") x) options ∙ two.stored in
     cc (same_tess, same_cells, same_out)
+one_task words (MergeRules tess rules out) (MergeRules tess' rules' out') one two = cc (one, two)
 one_task words (TellType tess k walk) (CheckRules tess' rules') one two = let other : 107 ≡ 99 = ap (letter 0) (sym one.spelled ∙ two) in absurd (omega (arith, other))
 one_task words (TellType tess k walk) (RunSession tess' k' rules') one two = let other : 107 ≡ 114 = ap (letter 0) (sym one.spelled ∙ two.spelled) in absurd (omega (arith, other))
 one_task words (TellType tess k walk) (LearnRules tess' cells' out') one two = let other : 107 ≡ 108 = ap (letter 0) (sym one.spelled ∙ two.spelled) in absurd (omega (arith, other))
@@ -75,6 +76,14 @@ one_task words (RunSession tess k rules) (LearnRules tess' cells' out') one two 
 one_task words (LearnRules tess cells out) (TellType tess' k' walk') one two = let other : 108 ≡ 107 = ap (letter 0) (sym one.spelled ∙ two.spelled) in absurd (omega (arith, other))
 one_task words (LearnRules tess cells out) (CheckRules tess' rules') one two = let other : 108 ≡ 99 = ap (letter 0) (sym one.spelled ∙ two) in absurd (omega (arith, other))
 one_task words (LearnRules tess cells out) (RunSession tess' k' rules') one two = let other : 108 ≡ 114 = ap (letter 0) (sym one.spelled ∙ two.spelled) in absurd (omega (arith, other))
+one_task words (TellType tess k walk) (MergeRules tess' rules' out') one two = let other : 107 ≡ 109 = ap (letter 0) (sym one.spelled ∙ two) in absurd (omega (arith, other))
+one_task words (MergeRules tess rules out) (TellType tess' k' walk') one two = let other : 109 ≡ 107 = ap (letter 0) (sym one ∙ two.spelled) in absurd (omega (arith, other))
+one_task words (CheckRules tess rules) (MergeRules tess' rules' out') one two = let other : 99 ≡ 109 = ap (letter 0) (sym one ∙ two) in absurd (omega (arith, other))
+one_task words (MergeRules tess rules out) (CheckRules tess' rules') one two = let other : 109 ≡ 99 = ap (letter 0) (sym one ∙ two) in absurd (omega (arith, other))
+one_task words (RunSession tess k rules) (MergeRules tess' rules' out') one two = let other : 114 ≡ 109 = ap (letter 0) (sym one.spelled ∙ two) in absurd (omega (arith, other))
+one_task words (MergeRules tess rules out) (RunSession tess' k' rules') one two = let other : 109 ≡ 114 = ap (letter 0) (sym one ∙ two.spelled) in absurd (omega (arith, other))
+one_task words (LearnRules tess cells out) (MergeRules tess' rules' out') one two = let other : 108 ≡ 109 = ap (letter 0) (sym one.spelled ∙ two) in absurd (omega (arith, other))
+one_task words (MergeRules tess rules out) (LearnRules tess' cells' out') one two = let other : 109 ≡ 108 = ap (letter 0) (sym one ∙ two.spelled) in absurd (omega (arith, other))
 
 -- the cells that words name are in range
 cells_in_range : (value : Option (List ℕ)) (n : ℕ) → AreCellsOf value n → AreCells n
@@ -92,3 +101,4 @@ in_range words (TellType tess k walk) ask = tt
 in_range words (CheckRules tess rules) ask = tt
 in_range words (RunSession tess k rules) ask = origin_in_range _ _ rules ask.origin
 in_range words (LearnRules tess cells out) ask = cells_in_range _ cells ask.most
+in_range words (MergeRules tess rules out) ask = tt

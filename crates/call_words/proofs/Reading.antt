@@ -4,7 +4,7 @@ use Rattle.tile_model.specs.declared.Letter.{Letter}
 use Rattle.tile_model.specs.WalkTexts.{walk_text}
 use Rattle.short_numbers.specs.Numbers.{IsNumber}
 use Rattle.call_words.proofs.OneTask.{letter}
-use Rattle.call_words.specs.Tasks.{Task, TellType, CheckRules, RunSession, LearnRules, IsKindForm, Ask}
+use Rattle.call_words.specs.Tasks.{Task, TellType, CheckRules, RunSession, LearnRules, MergeRules, IsKindForm, Ask}
 
 -- a kind and a walk that two words write
 pub record IsStart (digits letters : List ℕ) (n : ℕ) (walk : List Letter) : Type 0 where
@@ -37,3 +37,4 @@ kind_task words tess digits letters is (TellType t k walk) ask =
 kind_task words tess digits letters is (CheckRules t r) ask = absurd (cc (is, ask))
 kind_task words tess digits letters is (RunSession t n r) ask = absurd (cc (is, ask.spelled))
 kind_task words tess digits letters is (LearnRules t m r) ask = let other : 107 ≡ 108 = ap (letter 0) (sym is ∙ ask.spelled) in absurd (omega (arith, other))
+kind_task words tess digits letters is (MergeRules t r o) ask = let other : 107 ≡ 109 = ap (letter 0) (sym is ∙ ask) in absurd (omega (arith, other))

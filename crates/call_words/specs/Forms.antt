@@ -5,8 +5,8 @@ use Rattle.call_words.specs.declared.options.Named.TheVariants.{Value, Nothing}
 use Rattle.call_words.specs.declared.options.Origin.{Origin}
 use Rattle.call_words.specs.declared.options.Origin.TheVariants.{File, Teacher}
 use Rattle.call_words.specs.declared.forms.Form.{Form}
-use Rattle.call_words.specs.declared.forms.Form.TheVariants.{Kind, Check, Run, Learn}
-use Rattle.call_words.specs.Tasks.{Task, TellType, CheckRules, RunSession, LearnRules}
+use Rattle.call_words.specs.declared.forms.Form.TheVariants.{Kind, Check, Run, Learn, Merge}
+use Rattle.call_words.specs.Tasks.{Task, TellType, CheckRules, RunSession, LearnRules, MergeRules}
 use Rattle.call_words.specs.Tasks.{RulesFrom, FromFile, FromTeacher}
 
 -- the value of an option, where it is there
@@ -23,3 +23,4 @@ task_of (Kind tess k walk) = TellType tess.now k walk
 task_of (Check tess rules) = CheckRules tess.now rules.now
 task_of (Run tess k rules) = RunSession tess.now k (rules_from rules)
 task_of (Learn tess cells out) = LearnRules tess.now cells (name_of out)
+task_of (Merge tess rules out) = MergeRules tess.now rules.now out.now

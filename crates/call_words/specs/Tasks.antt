@@ -12,13 +12,15 @@ pub data RulesFrom : Type 0 where
   FromTeacher : ℕ → RulesFrom
 
 -- to tell the type that a walk leads to from the start of kind k, to check rules, to answer the
--- commands of the input over rules, in the tree of kind k, or to learn rules
+-- commands of the input over rules, in the tree of kind k, to learn rules, or to merge them
 pub data Task : Type 0 where
   TellType : (tess : List ℕ) (k : ℕ) (walk : List Letter) → Task
   CheckRules : (tess rules : List ℕ) → Task
   RunSession : (tess : List ℕ) (k : ℕ) (rules : RulesFrom) → Task
   -- from a teacher that may make so many cells, and to store them in a file, where one is named
   LearnRules : (tess : List ℕ) (cells : ℕ) (out : Option (List ℕ)) → Task
+  -- and to store what is left of them in a file
+  MergeRules : (tess rules out : List ℕ) → Task
 
 -- `kind TESS K LETTERS`
 pub record IsKindForm (words : List (List ℕ)) (tess : List ℕ) (k : ℕ) (walk : List Letter) :
@@ -71,6 +73,10 @@ pub record IsLearnForm
   pub stored : value_of (codes "--out") options ≡ out
   pub spelled : words ≡ codes "learn" ∷ tess ∷ options
 
+-- `merge TESS RULES OUT`
+abbrev pub IsMergeForm : List (List ℕ) → List ℕ → List ℕ → List ℕ → Type 0
+IsMergeForm words tess rules out = words ≡ codes "merge" ∷ tess ∷ rules ∷ out ∷ []
+
 -- the words ask for this task
 abbrev pub Ask : List (List ℕ) → Task → Type 0
 Ask words (TellType tess k walk) = IsKindForm words tess k walk
@@ -78,6 +84,7 @@ Ask words (TellType tess k walk) = IsKindForm words tess k walk
 Ask words (CheckRules tess rules) = words ≡ codes "check" ∷ tess ∷ rules ∷ []
 Ask words (RunSession tess k rules) = IsRunForm words tess k rules
 Ask words (LearnRules tess cells out) = IsLearnForm words tess cells out
+Ask words (MergeRules tess rules out) = IsMergeForm words tess rules out
 
 -- the words are in no form
 abbrev pub HaveNoForm : List (List ℕ) → Type 0
@@ -93,6 +100,10 @@ abbrev pub AreNotOfLearn : List (List ℕ) → Type 0
 AreNotOfLearn words =
     (tess : List ℕ) (cells : ℕ) (out : Option (List ℕ)) → IsLearnForm words tess cells out → ⊥
 
+-- the words are not of the form `merge`
+abbrev pub AreNotOfMerge : List (List ℕ) → Type 0
+AreNotOfMerge words = (tess rules out : List ℕ) → IsMergeForm words tess rules out → ⊥
+
 -- so many cells may be asked for
 abbrev pub AreCells : ℕ → Type 0
 AreCells cells = (1 ≤ cells) × (cells ≤ 1000000)
@@ -107,6 +118,7 @@ IsInRange (TellType tess k walk) = Unit {0}
 IsInRange (CheckRules tess rules) = Unit {0}
 IsInRange (RunSession tess k rules) = AskInRange rules
 IsInRange (LearnRules tess cells out) = AreCells cells
+IsInRange (MergeRules tess rules out) = Unit {0}
 
 -- the task asks a teacher for the rules of the tessellation that this file holds, with so many
 -- cells
@@ -116,14 +128,23 @@ TeachesFor (CheckRules tess rules) file cells = ⊥
 TeachesFor (RunSession tess k (FromFile rules)) file cells = ⊥
 TeachesFor (RunSession tess k (FromTeacher most)) file cells = (tess ≡ file) × (most ≡ cells)
 TeachesFor (LearnRules tess most out) file cells = (tess ≡ file) × (most ≡ cells)
+TeachesFor (MergeRules tess rules out) file cells = ⊥
 
 -- the words ask for no task that asks a teacher
 abbrev pub AskNoTeacher : List (List ℕ) → Type 0
 AskNoTeacher words =
     (task : Task) (file : List ℕ) (cells : ℕ) → Ask words task → TeachesFor task file cells → ⊥
 
+-- the file in which a task stores rules, where it stores any
+abbrev pub stored_in : Task → Option (List ℕ)
+stored_in (TellType tess k walk) = None
+stored_in (CheckRules tess rules) = None
+stored_in (RunSession tess k rules) = None
+stored_in (LearnRules tess cells out) = out
+stored_in (MergeRules tess rules out) = Some out
+
 -- the words name this file to store rules in
 pub record IsOut (words : List (List ℕ)) (file : List ℕ) : Type 0 where
-  pub tess : List ℕ
-  pub cells : ℕ
-  pub form : IsLearnForm words tess cells (Some file)
+  pub task : Task
+  pub ask : Ask words task
+  pub named : stored_in task ≡ Some file

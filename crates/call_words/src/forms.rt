@@ -4,7 +4,8 @@ ghost use Rattle.std.specs.String.{string_bytes};
 ghost use Rattle.tile_model.specs.declared.Letter.{Letter};
 ghost use Rattle.tile_model.specs.WalkTexts.{walk_text};
 ghost use Rattle.short_numbers.specs.Numbers.{IsNumber};
-ghost use Rattle.call_words.specs.Tasks.{Task, Ask, HaveNoForm, AreNotOfRun, AreNotOfLearn};
+ghost use Rattle.call_words.specs.Tasks.{Task, Ask, HaveNoForm};
+ghost use Rattle.call_words.specs.Tasks.{AreNotOfRun, AreNotOfLearn, AreNotOfMerge};
 ghost use Rattle.call_words.specs.Forms.{task_of};
 
 use crate::options::{Named, Origin, are_options, read_cells, read_origin, value_in};
@@ -40,6 +41,13 @@ pub enum Form<'a> {
         cells: u32,
         /// The file in which the rules are stored, where one is named.
         out: Named<'a>,
+    },
+    /// `merge TESS RULES OUT`
+    Merge {
+        tess: &'a str,
+        rules: &'a str,
+        /// The file in which the merged rules are stored.
+        out: &'a str,
     },
 }
 
@@ -100,7 +108,10 @@ pub fn read_words<'a>(alloc: Global, words: &'a [String]) -> Result<Form<'a>, Wo
             Some(form) => Ok(form),
             None => match read_learn(words) {
                 Some(form) => Ok(form),
-                None => Err(WordsFault::Usage),
+                None => match read_merge(words) {
+                    Some(form) => Ok(form),
+                    None => Err(WordsFault::Usage),
+                },
             },
         },
     }
@@ -148,5 +159,23 @@ fn read_learn<'a>(words: &'a [String]) -> Option<Form<'a>>
         tess: tess.as_str(),
         cells,
         out: value_in(options, "--out"),
+    })
+}
+
+/// Reads words of the form `merge`.
+fn read_merge<'a>(words: &'a [String]) -> Option<Form<'a>>
+    ensures some { IfSome result (λ form. Ask (map string_bytes words.now) (task_of form)) }
+    ensures none { IfNone result (AreNotOfMerge (map string_bytes words.now)) }
+{
+    let [form, tess, rules, out] = words else {
+        return None;
+    };
+    if form.as_str() != "merge" {
+        return None;
+    }
+    Some(Form::Merge {
+        tess: tess.as_str(),
+        rules: rules.as_str(),
+        out: out.as_str(),
     })
 }

@@ -61,3 +61,7 @@ returns-in-Some-clause-complete c = λ task ask.
 pub returns-in-Some-read_learn-clause-complete : goal.returns-in-Some-read_learn-clause-complete
 returns-in-Some-read_learn-clause-complete c = λ task ask.
     one_task _ (task_of c.in-Some-read_learn.form) task c.in-Some-read_learn.ensures.some ask
+
+pub returns-in-Some-read_merge-clause-complete : goal.returns-in-Some-read_merge-clause-complete
+returns-in-Some-read_merge-clause-complete c = λ task ask.
+    one_task _ (task_of c.in-Some-read_merge.form) task c.in-Some-read_merge.ensures.some ask
