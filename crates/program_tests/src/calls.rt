@@ -127,6 +127,10 @@ fn words_lead_to_lines(rt: HostRuntime) -> Result<(), Fail> {
         ("learn p54.tess --cells 1 --cells 1", "usage\n", 2),
         ("learn p54.tess --out x --out x", "usage\n", 2),
         ("learn none.tess --out x", "file fault tess\n", 3),
+        ("merge p54.tess p54.json", "usage\n", 2),
+        ("merge none.tess none.json x", "file fault tess\n", 3),
+        ("merge p54.tess none.json x", "file fault rules\n", 3),
+        ("merge p53.tess p54.json x", "broken 4 0 0\n", 7),
     ] {
         assert!(rt; leads(alloc, words, b"", line, code)?, "{words}");
     }
@@ -436,5 +440,56 @@ fn answers_of_texts_and_rings(rt: HostRuntime) -> Result<(), Fail> {
             "{commands}"
         );
     }
+    Ok(())
+}
+
+// The rules of pentagons with a copy of their second state behind the others, to which the first
+// side of the root leads, or to which nothing leads.
+const COPIED: &str = "\"rules\":[\"P\",\"R\",1,2,\"L\"]},\
+    {\"claims\":[[0,3],[0,2],[0,2],[0,2],[0,1]],\"kind\":0,\"off\":0,\
+    \"rules\":[\"P\",\"R\",1,1,2]}]";
+
+fn with_copy(alloc: Global, root: &str) -> Result<Vec<u8>, AllocError> {
+    let text = changed(alloc, PENTAGONS_RULES, "[1,1,1,1,1]", root)?;
+    let Ok(text) = std::str::from_utf8(&text) else {
+        return Ok(text);
+    };
+    changed(alloc, text, "\"rules\":[\"P\",\"R\",1,2,\"L\"]}]", COPIED)
+}
+
+#[test]
+fn merges_rules(rt: HostRuntime) -> Result<(), Fail> {
+    let alloc = rt.alloc();
+    for root in ["[3,1,1,1,1]", "[1,1,1,1,1]"] {
+        let copied = with_copy(alloc, root)?;
+        assert!(rt;
+            leads(alloc, "check p54.tess x", &copied, "accepted 4 1\n", 0)?,
+            "{root}"
+        );
+        let mut files = files(alloc, &copied)?;
+        let mut input = MemSource::new(alloc, b"", 10, &[])?;
+        let words = "merge p54.tess x y";
+        assert!(rt;
+            ends(alloc, &mut files, words, &mut input, "accepted 3 1\n", 0)?,
+            "{root}"
+        );
+        assert!(rt;
+            files.content("y") == Some(PENTAGONS_RULES.as_bytes()),
+            "{root}"
+        );
+        assert!(rt; files.content("x") == Some(copied.as_slice()), "{root}");
+    }
+    Ok(())
+}
+
+#[test]
+fn tells_of_merged_rules_that_are_not_stored(rt: HostRuntime) -> Result<(), Fail> {
+    let alloc = rt.alloc();
+    let copied = with_copy(alloc, "[3,1,1,1,1]")?;
+    let mut files = failing_files(alloc, &copied, &[3])?;
+    let mut input = MemSource::new(alloc, b"", 10, &[])?;
+    let words = "merge p54.tess x y";
+    assert!(rt; ends(alloc, &mut files, words, &mut input, "store fault\n", 14)?);
+    assert!(rt; files.content("y").is_none());
     Ok(())
 }

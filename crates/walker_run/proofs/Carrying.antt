@@ -11,11 +11,11 @@ use Rattle.walker_run.specs.declared.line.Role.TheVariants.{Tess, Rules}
 use Rattle.walker_run.specs.declared.stop.Stop.{Stop}
 use Rattle.walker_run.specs.declared.stop.Stop.TheVariants.{Say, Memory}
 use Rattle.walker_run.specs.declared.tasks.Work.{Work}
-use Rattle.walker_run.specs.Due.{Contents, Row, FetchesFor}
+use Rattle.walker_run.specs.Due.{Contents, Row, FetchesFor, MakesFor}
 use Rattle.walker_run.specs.Held.{Loaded, Refused, Lesson, IsTess, IsMade}
 use Rattle.walker_run.proofs.LineKinds.{kind_of, made_kind}
 use Rattle.walker_run.specs.Outcome.{HasGivenUpOn, AsksOf}
-use Rattle.walker_run.specs.Effects.{FilesSeen, TeacherSeen, OnlyFetches, IsPlain, IsRefusedBy, Says, Opens, Lacks, end_of, line_of, lesson_of, IsNoKind, ServesFor, FitsTask, fits_row, fits_unread, fits_session, fits_nothing, MakesFor, IsSession, IsCarriedOut}
+use Rattle.walker_run.specs.Effects.{FilesSeen, TeacherSeen, OnlyFetches, IsPlain, IsRefusedBy, Says, Opens, Lacks, end_of, line_of, lesson_of, IsNoKind, ServesFor, FitsTask, fits_row, fits_unread, fits_session, fits_nothing, IsSession, IsCarriedOut}
 
 module _ (tells : Bool) (before after : FilesSeen) (asked answered : TeacherSeen) (task : Task) where
   -- a line to which the files led
@@ -58,6 +58,10 @@ module _ (tells : Bool) (before after : FilesSeen) (asked answered : TeacherSeen
     gave_up = λ n is. absurd (cc is);
     ready = λ kinds a k is. absurd (cc is);
   }
+
+  pub lacked : (result : Result Work Stop) → IsErrAnd result (λ y. y ≡ Memory) → OnlyFetches tells before after None → IsCarriedOut tells before after asked answered task (end_of result)
+  lacked (Ok work) gives f = absurd gives
+  lacked (Err y) gives f = subst (λ (s : Stop). IsCarriedOut tells before after asked answered task (end_of (Err s))) (sym gives) (lacks f)
 
   -- a step that stopped while it fetched
   stops : (A : Type 0) (stop : Stop) → OnlyFetches tells before after (line_of {A = A} (Err stop))

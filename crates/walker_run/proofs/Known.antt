@@ -7,16 +7,16 @@ use Rattle.tess_text.specs.Spelling.{IsSpelling}
 use Rattle.rules_file.specs.Spelling.{rules_text}
 use Rattle.way_io.specs.Counts.{Rose}
 use Rattle.way_io.specs.Contents.{KeepsAll}
-use Rattle.call_words.specs.Tasks.{Task, TellType, CheckRules, RunSession, LearnRules, Ask, HaveNoForm, AreNotOfRun, IsLearnForm, IsOut}
+use Rattle.call_words.specs.Tasks.{Task, TellType, CheckRules, RunSession, LearnRules, MergeRules, Ask, HaveNoForm, AreNotOfRun, IsOut}
 use Rattle.call_words.proofs.OneTask.{one_task}
 use Rattle.walker_run.specs.declared.line.Role.{Role}
 use Rattle.walker_run.specs.declared.line.Line.TheVariants.{Accepted, Usage, FileFault, Closed, GaveUp, StoreFault, InputTooLong}
 use Rattle.walker_run.specs.Runs.{Call, Run, call_of}
 use Rattle.tile_model.specs.Validity.{IsValid}
 use Rattle.walker_run.specs.Held.{Outcome, Loaded, Refused, Lesson, IsTess, tess_too_long, tess_line, tess_kinds, tess_loaded, Holds, tess_limit}
-use Rattle.walker_run.specs.Due.{Contents, no_form, by_task, Serves, StoresFor, Stores, Makes, MaySay, due, unread, unstored}
+use Rattle.walker_run.specs.Due.{Contents, no_form, by_task, Serves, StoresFor, StoresAs, Stores, MakesFor, IsToMake, MaySay, due, unread, unstored}
 use Rattle.walker_run.specs.Promise.{IsClosedIn, IsGivenUpIn}
-use Rattle.walker_run.specs.Effects.{FilesSeen, End, Says, Opens, Lacks, ServesFor, FitsTask, fits_row, fits_unread, fits_unstored, fits_session, fits_nothing, StoresAs, MakesFor, MayStoreAt, IsSession, IsCarriedOut, IsDecided, formless, wordless, carried_out}
+use Rattle.walker_run.specs.Effects.{FilesSeen, End, Says, Opens, Lacks, ServesFor, FitsTask, fits_row, fits_unread, fits_unstored, fits_session, fits_nothing, MayStoreAt, IsSession, IsCarriedOut, IsDecided, formless, wordless, carried_out}
 use Rattle.walker_run.specs.Ending.{files_of, teacher_of}
 
 -- what a call may come to
@@ -35,8 +35,8 @@ pub record Known (run : Run) (lesson : Lesson) (end : End) : Type 0 where
   pub others : IsTrue run.files_tell → (file : List ℕ) → (IsOut run.words file → ⊥) → run.after.contents file ≡ run.before.contents file
   pub kept : IsTrue run.files_tell → KeepsAll run.before.contents run.after.contents ⊎ (Stores (call_of run lesson) × MayStoreAt end)
   pub stored :
-      IsTrue run.files_tell → (tess out : List ℕ) (cells : ℕ) (kinds : List TileKind) (a : TreeAutomaton)
-      → IsLearnForm run.words tess cells (Some out) → Makes run.before.contents lesson tess cells kinds a
+      IsTrue run.files_tell → (task : Task) (out : List ℕ) (kinds : List TileKind) (a : TreeAutomaton)
+      → Ask run.words task → StoresAs task out → MakesFor run.before.contents lesson task kinds a
       → end ≡ Says (Accepted (length a.states) (length a.corners)) → run.after.contents out ≡ Some (rules_text a)
   pub closed : (n : ℕ) → end ≡ Says (Closed n) → IsClosedIn run n
   pub gave_up : (n : ℕ) → end ≡ Says (GaveUp n) → IsGivenUpIn run n
@@ -65,6 +65,7 @@ serves_for : (call : Call) (task : Task) (kinds : List TileKind) (a : TreeAutoma
 serves_for call (TellType tess n walk) kinds a k ask serves = absurd serves
 serves_for call (CheckRules tess rules) kinds a k ask serves = absurd serves
 serves_for call (LearnRules tess cells out) kinds a k ask serves = absurd serves
+serves_for call (MergeRules tess rules out) kinds a k ask serves = absurd serves
 serves_for call (RunSession tess n rules) kinds a k ask serves =
     let file = held call.contents tess serves.0 in
     subst (λ (m : ℕ). Serves call kinds a m) serves.3 (record {
@@ -86,29 +87,32 @@ reached_by call task ask (fits_unstored stores) = unstored (record { task = task
 reached_by call task ask (fits_session kinds a k serves) = serves_for call task kinds a k ask serves
 reached_by call task ask fits_nothing = tt
 
--- words that ask for a task that stores rules in a file name that file
-out_of : (words : List (List ℕ)) (task : Task) (file : List ℕ) → Ask words task → StoresAs task file → IsOut words file
-out_of words (TellType tess k walk) file ask named = absurd named
-out_of words (CheckRules tess rules) file ask named = absurd named
-out_of words (RunSession tess k rules) file ask named = absurd named
-out_of words (LearnRules tess cells out) file ask named =
-    record { tess = tess; cells = cells; form = subst (λ (o : Option (List ℕ)). IsLearnForm words tess cells o) named ask }
-
 pub of_run : (words : List (List ℕ)) (task : Task) → Ask words task → IsSession task → ¬ AreNotOfRun words
 of_run words (TellType tess k walk) ask session = absurd session
 of_run words (CheckRules tess rules) ask session = absurd session
 of_run words (RunSession tess k rules) ask session = λ none. none tess k rules ask
 of_run words (LearnRules tess cells out) ask session = absurd session
+of_run words (MergeRules tess rules out) ask session = absurd session
 
--- words that ask for a task that stores rules are not of the form `run`
-not_of_run_for : (call : Call) (task : Task) → Ask call.words task → StoresFor call.contents call.lesson task → AreNotOfRun call.words
-not_of_run_for call (TellType tess k walk) ask stores = absurd stores
-not_of_run_for call (CheckRules tess rules) ask stores = absurd stores
-not_of_run_for call (RunSession tess k rules) ask stores = absurd stores
-not_of_run_for call (LearnRules tess cells out) ask stores = λ tess' k rules form. absurd (cc (one_task call.words (LearnRules tess cells out) (RunSession tess' k rules) ask form))
+-- rules are made for a task that is to make rules
+pub to_make : (contents : Contents) (lesson : Lesson) (task : Task) (kinds : List TileKind) (a : TreeAutomaton) → MakesFor contents lesson task kinds a → IsToMake task
+to_make contents lesson (TellType tess k walk) kinds a makes = absurd makes
+to_make contents lesson (CheckRules tess rules) kinds a makes = absurd makes
+to_make contents lesson (RunSession tess k rules) kinds a makes = absurd makes
+to_make contents lesson (LearnRules tess cells out) kinds a makes = tt
+to_make contents lesson (MergeRules tess rules out) kinds a makes = tt
 
-pub not_of_run : (call : Call) → Stores call → AreNotOfRun call.words
-not_of_run call stores = not_of_run_for call stores.task stores.ask stores.reached
+-- words that ask for such a task are not of the form `run`
+pub not_of_run : (words : List (List ℕ)) (task : Task) → Ask words task → IsToMake task → AreNotOfRun words
+not_of_run words (TellType tess k walk) ask make = absurd make
+not_of_run words (CheckRules tess rules) ask make = absurd make
+not_of_run words (RunSession tess k rules) ask make = absurd make
+not_of_run words (LearnRules tess cells out) ask make = λ tess' k rules form. absurd (cc (one_task words (LearnRules tess cells out) (RunSession tess' k rules) ask form))
+not_of_run words (MergeRules tess rules out) ask make = λ tess' k rules' form. absurd (cc (one_task words (MergeRules tess rules out) (RunSession tess' k rules') ask form))
+
+pub stores_no_run : (call : Call) → Stores call → AreNotOfRun call.words
+stores_no_run call stores =
+    not_of_run call.words stores.task stores.ask (to_make call.contents call.lesson stores.task stores.reached.kinds stores.reached.automaton stores.reached.makes)
 
 module _ (run : Run) where
   abbrev Decided : End → Type 0
@@ -120,12 +124,12 @@ module _ (run : Run) where
   same_files : files_of run.after ≡ files_of run.before → (file : List ℕ) → run.after.contents file ≡ run.before.contents file
   same_files same file = λ i. (same i).contents file
 
-  stored_by : (task : Task) (end : End) → Ask run.words task → (c : Carried task end) → IsTrue run.files_tell → (tess out : List ℕ) (cells : ℕ) (kinds : List TileKind) (a : TreeAutomaton)
-      → IsLearnForm run.words tess cells (Some out) → Makes run.before.contents c.lesson tess cells kinds a
+  stored_by : (task : Task) (end : End) → Ask run.words task → (c : Carried task end) → IsTrue run.files_tell → (asked : Task) (out : List ℕ) (kinds : List TileKind) (a : TreeAutomaton)
+      → Ask run.words asked → StoresAs asked out → MakesFor run.before.contents c.lesson asked kinds a
       → end ≡ Says (Accepted (length a.states) (length a.corners)) → run.after.contents out ≡ Some (rules_text a)
-  stored_by task end ask c told tess out cells kinds a form makes is =
-      let same : LearnRules tess cells (Some out) ≡ task = one_task run.words (LearnRules tess cells (Some out)) task form ask in
-      c.stored told out kinds a (subst (λ (t : Task). StoresAs t out) same refl) (subst (λ (t : Task). MakesFor run.before.contents c.lesson t kinds a) same makes) is
+  stored_by task end ask c told asked out kinds a form named makes is =
+      let same : asked ≡ task = one_task run.words asked task form ask in
+      c.stored told out kinds a (subst (λ (t : Task). StoresAs t out) same named) (subst (λ (t : Task). MakesFor run.before.contents c.lesson t kinds a) same makes) is
 
   of_task : (task : Task) (end : End) → Ask run.words task → (c : Carried task end) → Known run c.lesson end
   of_task task end ask c = record {
@@ -133,8 +137,8 @@ module _ (run : Run) where
     fetches = c.fetches;
     unwritten = c.unstored;
     short = c.short;
-    stores = λ none. c.stores (λ file named. none file (out_of run.words task file ask named));
-    others = λ told file other. c.others told file (λ named. other (out_of run.words task file ask named));
+    stores = λ none. c.stores (λ file named. none file (record { task = task; ask = ask; named = named }));
+    others = λ told file other. c.others told file (λ named. other (record { task = task; ask = ask; named = named }));
     kept = λ told. elim (c.kept told) [
       | inl same ↦ inl same
       | inr stored ↦ inr (record { task = task; ask = ask; reached = stored.0 }, stored.1)
@@ -157,7 +161,7 @@ module _ (run : Run) where
       stores = λ file. ap (λ (x : FilesSeen). x.failed_stores) same;
       others = λ told file other. same_files same file;
       kept = λ told. inl (same_files same);
-      stored = λ told tess out cells kinds a form makes is. absurd (none (LearnRules tess cells (Some out)) form);
+      stored = λ told task out kinds a ask named makes is. absurd (none task ask);
       closed = λ n is. absurd (cc is);
       gave_up = λ n is. absurd (cc is);
       ready = λ kinds a k is. absurd (cc is);
@@ -174,7 +178,7 @@ module _ (run : Run) where
       stores = λ file. ap (λ (x : FilesSeen). x.failed_stores) same;
       others = λ told file other. same_files same file;
       kept = λ told. inl (same_files same);
-      stored = λ told tess out cells kinds a form makes is. absurd (cc is);
+      stored = λ told task out kinds a ask named makes is. absurd (cc is);
       closed = λ n is. absurd (cc is);
       gave_up = λ n is. absurd (cc is);
       ready = λ kinds a k is. absurd (cc is);

@@ -3,7 +3,7 @@ use Rattle.std.proofs.Common.{◌≡◌, ℕ, List, refl, sym, subst}
 use Rattle.tile_model.specs.declared.Letter.{Letter}
 use Rattle.tile_model.specs.Tessellations.{TileKind}
 use Rattle.tree_model.specs.Automata.{TreeAutomaton}
-use Rattle.call_words.specs.Tasks.{Task, TellType, CheckRules, RunSession, LearnRules, RulesFrom, FromFile, FromTeacher}
+use Rattle.call_words.specs.Tasks.{Task, TellType, CheckRules, RunSession, LearnRules, MergeRules, RulesFrom, FromFile, FromTeacher}
 use Rattle.walker_run.specs.declared.status.Status.{Status}
 use Rattle.walker_run.specs.declared.status.Status.TheVariants.{Done, FileFault as FileFaultStatus, StoreFault as StoreFaultStatus, Memory, ReadFault, WriteFault, InputTooLong as InputTooLongStatus}
 use Rattle.walker_run.specs.declared.line.Line.{Line}
@@ -11,7 +11,7 @@ use Rattle.walker_run.specs.declared.line.Line.TheVariants.{TypeTold, Accepted, 
 use Rattle.walker_run.specs.Lines.{status_of}
 use Rattle.walker_run.specs.Runs.{Call}
 use Rattle.walker_run.specs.Held.{Outcome, Loaded, Refused, Lesson, IsTess, tess_too_long, tess_line, tess_kinds, tess_loaded, IsRules, rules_too_long, rules_syntax, rules_shape, rules_broken, rules_loaded, MayRefuse, MayTeach, IsMade, made_spherical, made_rules, made_taught, RulesOf}
-use Rattle.walker_run.specs.Due.{Contents, TypeRow, type_no_tess, type_no_kind, type_told, CheckRow, check_no_tess, check_no_rules, check_accepted, SessionRow, session_no_tess, session_no_kind, session_no_rules, Row, IsDue, no_form, by_task}
+use Rattle.walker_run.specs.Due.{Contents, TypeRow, type_no_tess, type_no_kind, type_told, CheckRow, check_no_tess, check_no_rules, check_accepted, SessionRow, session_no_tess, session_no_kind, session_no_rules, MergeRow, merge_no_tess, merge_no_rules, merge_accepted, Row, IsDue, no_form, by_task}
 
 pub data LineKind : Type 0 where
   OfWork : LineKind
@@ -158,11 +158,17 @@ session_kind contents lesson tess k rules (session_no_tess line is) = tess_kind 
 session_kind contents lesson tess k rules (session_no_kind kinds is few) = refl
 session_kind contents lesson tess k rules (session_no_rules kinds line is lt refused) = rules_of_kind contents lesson kinds rules line refused
 
+merge_kind : (contents : Contents) (tess rules : List ℕ) {line : Line} → MergeRow contents tess rules line → IsAnswer (kind_of line)
+merge_kind contents tess rules (merge_no_tess line is) = answers line (tess_kind contents tess line is)
+merge_kind contents tess rules (merge_no_rules kinds line is refused) = answers line (rules_kind contents kinds rules line refused)
+merge_kind contents tess rules (merge_accepted kinds a merges) = tt
+
 row_kind : (contents : Contents) (lesson : Lesson) (task : Task) (line : Line) → Row contents lesson task line → IsAnswer (kind_of line)
 row_kind contents lesson (TellType tess k walk) line row = type_kind contents tess k walk row
 row_kind contents lesson (CheckRules tess rules) line row = check_kind contents lesson tess (FromFile rules) row
 row_kind contents lesson (RunSession tess k rules) line row = answers line (session_kind contents lesson tess k rules row)
 row_kind contents lesson (LearnRules tess cells out) line row = check_kind contents lesson tess (FromTeacher cells) row
+row_kind contents lesson (MergeRules tess rules out) line row = merge_kind contents tess rules row
 
 -- no line that is due tells of a fault
 pub due_no_fault : (call : Call) {line : Line} → IsDue call line → kind_of line ≡ OfFault → ⊥

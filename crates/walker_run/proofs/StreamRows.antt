@@ -24,7 +24,7 @@ use Rattle.walker_run.specs.Ending.{said, unsaid, unwritten, answered, cut_off, 
 use Rattle.walker_run.proofs.OverTree.{stands_over_tree}
 use Rattle.walker_run.proofs.Streams.{nothing_begun}
 use Rattle.walker_run.proofs.Unique.{never_both, one_session}
-use Rattle.walker_run.proofs.Known.{Known, not_of_run}
+use Rattle.walker_run.proofs.Known.{Known, stores_no_run}
 use Rattle.walker_run.proofs.TableRows.{SaidSo, Streams, between, silent, begun}
 
 module _ (run : Run) (lesson : Lesson) (answering : Answering) where
@@ -124,7 +124,7 @@ module _ (run : Run) (lesson : Lesson) (outputs_agree : OfEachTree OutputsAgree)
   said_instead : (kinds : List TileKind) (a : TreeAutomaton) (k : ℕ) → Serves (call_of run lesson) kinds a k → {line : Line} → MaySay (call_of run lesson) line → (role : Role) × (line ≡ FileFault role)
   said_instead kinds a k serves (due line is_due) = absurd (never_both (call_of run lesson) line kinds a k is_due serves)
   said_instead kinds a k serves (unread role fetches) = (role, refl)
-  said_instead kinds a k serves (unstored stores) = absurd (not_of_run (call_of run lesson) stores serves.tess k serves.rules serves.form)
+  said_instead kinds a k serves (unstored stores) = absurd (stores_no_run (call_of run lesson) stores serves.tess k serves.rules serves.form)
 
   said_unread : (kinds : List TileKind) (a : TreeAutomaton) (k : ℕ) (line : Line) → Known run lesson (Says line) → SaidSo run lesson line → (role : Role) × (line ≡ FileFault role) → AnswersStream run lesson kinds a k
   said_unread kinds a k line known says fault =

@@ -1,14 +1,11 @@
 -- From the way in which a run ended to the rows of the table.
-use Rattle.std.proofs.Common.{◌≡◌, ℕ, IsTrue, List, Option, Some, ◌++◌, codes, decimal, ◌⊎◌, inl, inr, refl, sym, ◌∙◌, ap, subst, append_assoc, length}
+use Rattle.std.proofs.Common.{◌≡◌, ℕ, IsTrue, List, Option, Some, ◌++◌, ◌⊎◌, inl, inr, refl, sym, ◌∙◌, ap, subst, length}
 use Rattle.tile_model.specs.Tessellations.{TileKind}
-use Rattle.tile_model.specs.Walks.{type_of}
 use Rattle.tree_model.specs.Automata.{TreeAutomaton}
 use Rattle.rules_file.specs.Spelling.{rules_text}
 use Rattle.line_server.specs.Answering.{Answering, over_walks}
 use Rattle.way_io.specs.Contents.{KeepsAll}
-use Rattle.regular_maker.specs.Regular.{p_of, q_of}
-use Rattle.regular_maker.specs.Automaton.{regular_automaton}
-use Rattle.call_words.specs.Tasks.{TellType, CheckRules, RunSession, LearnRules, FromTeacher, HaveNoForm, AreNotOfRun, IsLearnForm}
+use Rattle.call_words.specs.Tasks.{Task, TellType, CheckRules, RunSession, LearnRules, MergeRules, FromFile, FromTeacher, Ask, HaveNoForm, AreNotOfRun}
 use Rattle.walker_run.specs.declared.status.Status.{Status}
 use Rattle.walker_run.specs.declared.status.Status.TheVariants.{Done, Usage as UsageStatus, FileFault as FileFaultStatus, FileTooLong as FileTooLongStatus, TessRefused, RulesText, NotAccepted, Spherical as SphericalStatus, Closed as ClosedStatus, GaveUp as GaveUpStatus, StoreFault as StoreFaultStatus, Memory, ReadFault, WriteFault, InputTooLong as InputTooLongStatus}
 use Rattle.walker_run.specs.declared.line.Role.{Role}
@@ -16,16 +13,16 @@ use Rattle.walker_run.specs.declared.line.Line.{Line}
 use Rattle.walker_run.specs.declared.line.Line.TheVariants.{TypeTold, Accepted, Usage, FileFault, FileTooLong, TessLine, TessKinds, RulesSyntax, RulesShape, Broken, Spherical, Closed, GaveUp, StoreFault, InputTooLong}
 use Rattle.walker_run.specs.Runs.{Run, call_of}
 use Rattle.walker_run.specs.Lines.{IsOutside, MayStore, status_of, text_of}
-use Rattle.walker_run.specs.Held.{Lesson, tess_loaded, rules_loaded, made_rules}
-use Rattle.walker_run.specs.Due.{CheckRow, check_no_tess, check_no_rules, IsDue, ServesSome, type_told, check_accepted, by_task, Makes, MaySay, due, unread, unstored, Stores, Fetches}
-use Rattle.walker_run.specs.Outcome.{Writes, WritesNothing, ComesExactly, Gives, GivesAtOnce, TellsType, TellsAccepted, TellsLearnt}
-use Rattle.walker_run.specs.Promise.{BeginsLine, BeginsFault, IsServing, TellsFileFault, TellsStoreFault, TellsClosed, TellsGiveUp, TellsTaught, StoresRules}
+use Rattle.walker_run.specs.Held.{Lesson}
+use Rattle.walker_run.specs.Due.{CheckRow, check_no_tess, check_no_rules, check_accepted, MergeRow, merge_no_tess, merge_no_rules, merge_accepted, Row, IsDue, by_task, ServesSome, MakesFor, IsToMake, StoresAs, MaySay, due, unread, unstored, Stores, Fetches}
+use Rattle.walker_run.specs.Outcome.{Writes, WritesNothing, ComesExactly, GivesAtOnce}
+use Rattle.walker_run.specs.Promise.{BeginsLine, BeginsFault, IsServing, TellsFileFault, TellsStoreFault, TellsClosed, TellsGiveUp, TellsMade, StoresRules}
 use Rattle.walker_run.specs.Effects.{End, Says, Opens, Lacks, MayStoreAt}
 use Rattle.walker_run.specs.Ending.{SaysLine, said, unsaid, unwritten, EndsStream, answered, cut_off, over_limit, broken_off, out_of_memory, IsWritten}
-use Rattle.call_words.proofs.OneTask.{one_task}
 use Rattle.walker_run.proofs.Unique.{one_line, never_both, row_of}
 use Rattle.walker_run.proofs.LineKinds.{kind_of, refusal_undone, session_kind, tess_kind, done_accepted, due_no_fault}
-use Rattle.walker_run.proofs.Known.{Known}
+use Rattle.walker_run.proofs.Keeping.{made_row}
+use Rattle.walker_run.proofs.Known.{Known, to_make, not_of_run}
 
 -- the statuses with which only a line that is due comes
 abbrev pub IsOfLine : Status → Type 0
@@ -188,40 +185,6 @@ module _ (run : Run) (lesson : Lesson) where
   done_row (Opens kinds a k) known written told = inl ((serving kinds a k known).serves told)
   done_row Lacks known written told = inr (unanswered Done tt (between written.0 tt))
 
-  -- what a line that is due with Done gives
-  given : (end : End) → Known run lesson end → IsWritten run end → IsTrue run.files_tell → (line : Line) → status_of line ≡ Done → IsDue (call_of run lesson) line → Gives run Done (text_of line)
-  given (Says other) known written told line done is_due = (said_exactly other Done tt (known.reached told) written.0).always line is_due done
-  given (Opens kinds a k) known written told line done is_due = absurd (never_both (call_of run lesson) line kinds a k is_due (known.reached told))
-  given Lacks known written told line done is_due = inr (between written.0 tt)
-
-  -- the row of a type that is told
-  pub type_row : (end : End) → Known run lesson end → IsWritten run end → IsTrue run.files_tell → (line : List ℕ) → TellsType (call_of run lesson) line → Gives run Done line
-  type_row end known written told line t =
-      let d = type_of t.kinds (t.k, 0) t.walk in
-      let is_due : IsDue (call_of run lesson) (TypeTold d) = by_task (TellType t.tess t.k t.walk) (TypeTold d) t.form (type_told t.kinds (tess_loaded t.bytes t.kinds t.holds t.spelling t.valid) t.is_kind) in
-      let same : text_of (TypeTold d) ≡ line = sym (t.written ∙ append_assoc (codes "type " ++ decimal d.0 ++ codes " ") (decimal d.1) (codes "\n") ∙ append_assoc (codes "type " ++ decimal d.0) (codes " ") (decimal d.1 ++ codes "\n") ∙ append_assoc (codes "type ") (decimal d.0) (codes " " ++ (decimal d.1 ++ codes "\n"))) in
-      subst (λ (l : List ℕ). Gives run Done l) same (given end known written told (TypeTold d) refl is_due)
-
-  accepted_text : (states corners : ℕ) (line : List ℕ) → line ≡ codes "accepted " ++ decimal states ++ codes " " ++ decimal corners ++ codes "\n" → text_of (Accepted states corners) ≡ line
-  accepted_text states corners line written = sym (written ∙ append_assoc (codes "accepted " ++ decimal states ++ codes " ") (decimal corners) (codes "\n") ∙ append_assoc (codes "accepted " ++ decimal states) (codes " ") (decimal corners ++ codes "\n") ∙ append_assoc (codes "accepted ") (decimal states) (codes " " ++ (decimal corners ++ codes "\n")))
-
-  -- the row of rules that are accepted
-  pub accepted_row : (end : End) → Known run lesson end → IsWritten run end → IsTrue run.files_tell → (line : List ℕ) → TellsAccepted (call_of run lesson) line → Gives run Done line
-  accepted_row end known written told line t =
-      let states = length t.automaton.states in
-      let corners = length t.automaton.corners in
-      let is_due : IsDue (call_of run lesson) (Accepted states corners) = by_task (CheckRules t.tess t.rules) (Accepted states corners) t.form (check_accepted t.kinds t.automaton (tess_loaded t.tess_bytes t.kinds t.holds_tess t.tess_spelling t.valid) (rules_loaded t.rules_bytes t.automaton t.holds_rules t.rules_spelling t.accepted)) in
-      subst (λ (l : List ℕ). Gives run Done l) (accepted_text states corners line t.written) (given end known written told (Accepted states corners) refl is_due)
-
-  -- the row of rules that are learnt
-  pub learnt_row : (end : End) → Known run lesson end → IsWritten run end → IsTrue run.files_tell → (line : List ℕ) → TellsLearnt (call_of run lesson) line → Gives run Done line
-  learnt_row end known written told line t =
-      let a = regular_automaton (p_of t.kinds) (q_of t.kinds) in
-      let states = length a.states in
-      let corners = length a.corners in
-      let is_due : IsDue (call_of run lesson) (Accepted states corners) = by_task (LearnRules t.tess t.cells t.out) (Accepted states corners) t.form (check_accepted t.kinds a (tess_loaded t.bytes t.kinds t.holds t.spelling t.valid) (made_rules t.regular t.infinite)) in
-      subst (λ (l : List ℕ). Gives run Done l) (accepted_text states corners line t.written) (given end known written told (Accepted states corners) refl is_due)
-
   -- words in no form
   at_once : (line : Line) → line ≡ Usage → SaidSo line → GivesAtOnce run UsageStatus (text_of Usage)
   at_once line usage (said is wrote) = inl (is ∙ ap status_of usage, λ told. wrote told ∙ ap (λ (l : Line). run.before.taken ++ text_of l) usage)
@@ -382,59 +345,75 @@ module _ (run : Run) (lesson : Lesson) where
   ]
 
   -- of rules that are made nothing else is said than their numbers, where no fault is told
-  accepted_due : (tess : List ℕ) (cells : ℕ) (out : Option (List ℕ)) (kinds : List TileKind) (a : TreeAutomaton) → IsLearnForm run.words tess cells out → Makes run.before.contents lesson tess cells kinds a → IsDue (call_of run lesson) (Accepted (length a.states) (length a.corners))
-  accepted_due tess cells out kinds a form makes = by_task (LearnRules tess cells out) (Accepted (length a.states) (length a.corners)) form (check_accepted kinds a makes.loaded makes.made)
+  accepted_due : (task : Task) (kinds : List TileKind) (a : TreeAutomaton) → Ask run.words task → MakesFor run.before.contents lesson task kinds a → IsDue (call_of run lesson) (Accepted (length a.states) (length a.corners))
+  accepted_due task kinds a ask makes = by_task task (Accepted (length a.states) (length a.corners)) ask (made_row run.before.contents lesson task kinds a makes)
 
-  stored_done : (tess out : List ℕ) (cells : ℕ) (kinds : List TileKind) (a : TreeAutomaton) → IsLearnForm run.words tess cells (Some out) → Makes run.before.contents lesson tess cells kinds a
+  stored_done : (task : Task) (out : List ℕ) (kinds : List TileKind) (a : TreeAutomaton) → Ask run.words task → StoresAs task out → MakesFor run.before.contents lesson task kinds a
       → (line : Line) → Known run lesson (Says line) → IsTrue run.files_tell → status_of line ≡ Done → MaySay (call_of run lesson) line → run.after.contents out ≡ Some (rules_text a)
-  stored_done tess out cells kinds a form makes line known told done (due l is_due) =
-      let same : l ≡ Accepted (length a.states) (length a.corners) = one_line (call_of run lesson) l (Accepted (length a.states) (length a.corners)) is_due (accepted_due tess cells (Some out) kinds a form makes) in
-      known.stored told tess out cells kinds a form makes (ap Says same)
-  stored_done tess out cells kinds a form makes line known told done (unread role fetches) = absurd (cc done)
-  stored_done tess out cells kinds a form makes line known told done (unstored stores) = absurd (cc done)
+  stored_done task out kinds a ask named makes line known told done (due l is_due) =
+      let same : l ≡ Accepted (length a.states) (length a.corners) = one_line (call_of run lesson) l (Accepted (length a.states) (length a.corners)) is_due (accepted_due task kinds a ask makes) in
+      known.stored told task out kinds a ask named makes (ap Says same)
+  stored_done task out kinds a ask named makes line known told done (unread role fetches) = absurd (cc done)
+  stored_done task out kinds a ask named makes line known told done (unstored stores) = absurd (cc done)
 
-  stored_broken : (tess out : List ℕ) (cells : ℕ) (kinds : List TileKind) (a : TreeAutomaton) → IsLearnForm run.words tess cells (Some out) → Makes run.before.contents lesson tess cells kinds a
+  stored_broken : (task : Task) (out : List ℕ) (kinds : List TileKind) (a : TreeAutomaton) → Ask run.words task → StoresAs task out → MakesFor run.before.contents lesson task kinds a
       → (line : Line) → Known run lesson (Says line) → IsTrue run.files_tell → BeginsLine run lesson line → MaySay (call_of run lesson) line → (run.after.contents out ≡ Some (rules_text a)) ⊎ BeginsFault run lesson
-  stored_broken tess out cells kinds a form makes line known told begins (due l is_due) =
-      let same : l ≡ Accepted (length a.states) (length a.corners) = one_line (call_of run lesson) l (Accepted (length a.states) (length a.corners)) is_due (accepted_due tess cells (Some out) kinds a form makes) in
-      inl (known.stored told tess out cells kinds a form makes (ap Says same))
-  stored_broken tess out cells kinds a form makes line known told begins (unread role fetches) = inr (record { line = FileFault role; fault = inl (role, refl); begins = begins })
-  stored_broken tess out cells kinds a form makes line known told begins (unstored stores) = inr (record { line = StoreFault; fault = inr refl; begins = begins })
-
-  of_learn : (tess : List ℕ) (cells : ℕ) (out : Option (List ℕ)) → IsLearnForm run.words tess cells out → ¬ AreNotOfRun run.words → ⊥
-  of_learn tess cells out form asked = asked (λ tess' k rules run_form. absurd (cc (one_task run.words (LearnRules tess cells out) (RunSession tess' k rules) form run_form)))
+  stored_broken task out kinds a ask named makes line known told begins (due l is_due) =
+      let same : l ≡ Accepted (length a.states) (length a.corners) = one_line (call_of run lesson) l (Accepted (length a.states) (length a.corners)) is_due (accepted_due task kinds a ask makes) in
+      inl (known.stored told task out kinds a ask named makes (ap Says same))
+  stored_broken task out kinds a ask named makes line known told begins (unread role fetches) = inr (record { line = FileFault role; fault = inl (role, refl); begins = begins })
+  stored_broken task out kinds a ask named makes line known told begins (unstored stores) = inr (record { line = StoreFault; fault = inr refl; begins = begins })
 
   -- the rules that are made were stored before their line was written
-  pub stored_row : (end : End) → Known run lesson end → IsWritten run end → IsTrue run.files_tell → (tess out : List ℕ) (cells : ℕ) (kinds : List TileKind) (a : TreeAutomaton)
-      → IsLearnForm run.words tess cells (Some out) → Makes run.before.contents lesson tess cells kinds a → StoresRules run lesson out a
-  stored_row (Says line) known written told tess out cells kinds a form makes = record {
-    at_done = λ done. stored_done tess out cells kinds a form makes line known told (said_with line Done tt written.0 done).0 (known.reached told);
-    at_write_fault = λ broke. stored_broken tess out cells kinds a form makes line known told (begun line known written.0 broke) (known.reached told);
+  pub stored_row : (end : End) → Known run lesson end → IsWritten run end → IsTrue run.files_tell → (task : Task) (out : List ℕ) (kinds : List TileKind) (a : TreeAutomaton)
+      → Ask run.words task → StoresAs task out → MakesFor run.before.contents lesson task kinds a → StoresRules run lesson out a
+  stored_row (Says line) known written told task out kinds a ask named makes = record {
+    at_done = λ done. stored_done task out kinds a ask named makes line known told (said_with line Done tt written.0 done).0 (known.reached told);
+    at_write_fault = λ broke. stored_broken task out kinds a ask named makes line known told (begun line known written.0 broke) (known.reached told);
   }
-  stored_row (Opens ks b k) known written told tess out cells kinds a form makes = absurd (of_learn tess cells (Some out) form (known.ready ks b k refl).0)
-  stored_row Lacks known written told tess out cells kinds a form makes = record { at_done = λ done. absurd (cc (written.0, done)); at_write_fault = λ broke. absurd (cc (written.0, broke)) }
+  stored_row (Opens ks b k) known written told task out kinds a ask named makes =
+      absurd ((known.ready ks b k refl).0 (not_of_run run.words task ask (to_make run.before.contents lesson task kinds a makes)))
+  stored_row Lacks known written told task out kinds a ask named makes = record { at_done = λ done. absurd (cc (written.0, done)); at_write_fault = λ broke. absurd (cc (written.0, broke)) }
 
-  -- what is said to words of the form `learn` with the status Done
-  taught_line : (tess : List ℕ) (cells : ℕ) (out : Option (List ℕ)) {line : Line} → CheckRow run.before.contents lesson tess (FromTeacher cells) line → status_of line ≡ Done → Writes run (text_of line)
-      → ((file : List ℕ) (kinds : List TileKind) (a : TreeAutomaton) → out ≡ Some file → Makes run.before.contents lesson tess cells kinds a → run.after.contents file ≡ Some (rules_text a))
-      → TellsTaught run lesson tess cells out
-  taught_line tess cells out (check_no_tess line is) done wrote stored = absurd (refusal_undone line (tess_kind run.before.contents tess line is) done)
-  taught_line tess cells out (check_no_rules kinds line is refused) done wrote stored = absurd (done_accepted run.before.contents lesson tess (FromTeacher cells) kinds line refused done)
-  taught_line tess cells out (check_accepted kinds a is loaded) done wrote stored =
-      let makes : Makes run.before.contents lesson tess cells kinds a = record { loaded = is; made = loaded } in
-      record { kinds = kinds; automaton = a; makes = makes; written = wrote; stored = λ file named. stored file kinds a named makes }
+  -- the rules for which a line tells that they are made, with the status Done
+  pub record IsMaking (task : Task) (line : Line) : Type 0 where
+    pub kinds : List TileKind
+    pub automaton : TreeAutomaton
+    pub makes : MakesFor run.before.contents lesson task kinds automaton
+    pub is : line ≡ Accepted (length automaton.states) (length automaton.corners)
 
-  taught_due : (tess : List ℕ) (cells : ℕ) (out : Option (List ℕ)) → IsLearnForm run.words tess cells out → {line : Line} → MaySay (call_of run lesson) line → status_of line ≡ Done → Writes run (text_of line)
-      → ((file : List ℕ) (kinds : List TileKind) (a : TreeAutomaton) → out ≡ Some file → Makes run.before.contents lesson tess cells kinds a → run.after.contents file ≡ Some (rules_text a))
-      → TellsTaught run lesson tess cells out
-  taught_due tess cells out form (due line is_due) done wrote stored = taught_line tess cells out (row_of (call_of run lesson) (LearnRules tess cells out) form is_due) done wrote stored
-  taught_due tess cells out form (unread role fetches) done wrote stored = absurd (cc done)
-  taught_due tess cells out form (unstored stores) done wrote stored = absurd (cc done)
+  learnt_line : (tess : List ℕ) (cells : ℕ) (out : Option (List ℕ)) {line : Line} → CheckRow run.before.contents lesson tess (FromTeacher cells) line → status_of line ≡ Done → IsMaking (LearnRules tess cells out) line
+  learnt_line tess cells out (check_no_tess line is) done = absurd (refusal_undone line (tess_kind run.before.contents tess line is) done)
+  learnt_line tess cells out (check_no_rules kinds line is refused) done = absurd (done_accepted run.before.contents lesson tess (FromTeacher cells) kinds line refused done)
+  learnt_line tess cells out (check_accepted kinds a is loaded) done = record { kinds = kinds; automaton = a; makes = record { loaded = is; made = loaded }; is = refl }
 
-  pub taught_row : (end : End) → Known run lesson end → IsWritten run end → IsTrue run.files_tell → (tess : List ℕ) (cells : ℕ) (out : Option (List ℕ)) → IsLearnForm run.words tess cells out → run.status ≡ Done → TellsTaught run lesson tess cells out
-  taught_row (Says line) known written told tess cells out form done =
+  merged_line : (tess rules out : List ℕ) {line : Line} → MergeRow run.before.contents tess rules line → status_of line ≡ Done → IsMaking (MergeRules tess rules out) line
+  merged_line tess rules out (merge_no_tess line is) done = absurd (refusal_undone line (tess_kind run.before.contents tess line is) done)
+  merged_line tess rules out (merge_no_rules kinds line is refused) done = absurd (done_accepted run.before.contents lesson tess (FromFile rules) kinds line refused done)
+  merged_line tess rules out (merge_accepted kinds a merges) done = record { kinds = kinds; automaton = a; makes = merges; is = refl }
+
+  making_line : (task : Task) {line : Line} → IsToMake task → Row run.before.contents lesson task line → status_of line ≡ Done → IsMaking task line
+  making_line (TellType tess k walk) make row done = absurd make
+  making_line (CheckRules tess rules) make row done = absurd make
+  making_line (RunSession tess k rules) make row done = absurd make
+  making_line (LearnRules tess cells out) make row done = learnt_line tess cells out row done
+  making_line (MergeRules tess rules out) make row done = merged_line tess rules out row done
+
+  making : (task : Task) → Ask run.words task → IsToMake task → {line : Line} → MaySay (call_of run lesson) line → status_of line ≡ Done → IsMaking task line
+  making task ask make (due line is_due) done = making_line task make (row_of (call_of run lesson) task ask is_due) done
+  making task ask make (unread role fetches) done = absurd (cc done)
+  making task ask make (unstored stores) done = absurd (cc done)
+
+  pub made_so : (end : End) → Known run lesson end → IsWritten run end → IsTrue run.files_tell → (task : Task) → Ask run.words task → IsToMake task → run.status ≡ Done → TellsMade run lesson task
+  made_so (Says line) known written told task ask make done =
       let is = said_with line Done tt written.0 done in
-      taught_due tess cells out form (known.reached told) is.0 is.1
-      (λ file kinds a named makes. (stored_row (Says line) known written told tess file cells kinds a (subst (λ (o : Option (List ℕ)). IsLearnForm run.words tess cells o) named form) makes).at_done done)
-  taught_row (Opens kinds a k) known written told tess cells out form done = absurd (of_learn tess cells out form (known.ready kinds a k refl).0)
-  taught_row Lacks known written told tess cells out form done = absurd (cc (written.0, done))
+      let m = making task ask make (known.reached told) is.0 in
+      record {
+        kinds = m.kinds;
+        automaton = m.automaton;
+        makes = m.makes;
+        written = subst (λ (l : Line). Writes run (text_of l)) m.is is.1;
+        stored = λ file named. (stored_row (Says line) known written told task file m.kinds m.automaton ask named m.makes).at_done done;
+      }
+  made_so (Opens kinds a k) known written told task ask make done = absurd ((known.ready kinds a k refl).0 (not_of_run run.words task ask make))
+  made_so Lacks known written told task ask make done = absurd (cc (written.0, done))

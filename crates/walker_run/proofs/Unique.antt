@@ -1,5 +1,5 @@
 -- To a call at most one line is due, or it serves walkers over one automaton and in the tree of one kind, and never both.
-use Rattle.std.proofs.Common.{◌≡◌, ℕ, ◌<◌, ◌⊎◌, List, length, inl, inr, refl, sym, ap, subst, arith}
+use Rattle.std.proofs.Common.{◌≡◌, ℕ, ◌<◌, ◌⊎◌, List, length, None, inl, inr, refl, sym, ap, subst, arith}
 use Rattle.std.specs.declared.result.Result.TheVariants.{Err}
 use Rattle.serde_json.specs.Data.{Data}
 use Rattle.tile_model.specs.declared.Letter.{Letter}
@@ -17,13 +17,16 @@ use Rattle.rules_file.specs.Faults.{IsFirstFault, FailsAt}
 use Rattle.rules_file.proofs.Unique.{spelt_no_failure, one_first_fault, file_exact}
 use Rattle.structure_check.specs.Broken.{IsFirstBroken}
 use Rattle.structure_check.proofs.First.{refutes, one_first}
-use Rattle.call_words.specs.Tasks.{Task, TellType, CheckRules, RunSession, LearnRules, RulesFrom, FromFile, FromTeacher, Ask}
+use Rattle.tree_model.specs.Conditions.{IsAccepted}
+use Rattle.merge_model.specs.Merging.{IsMerged}
+use Rattle.merge_laws.proofs.Unique.{one_merging}
+use Rattle.call_words.specs.Tasks.{Task, TellType, CheckRules, RunSession, LearnRules, MergeRules, RulesFrom, FromFile, FromTeacher, Ask}
 use Rattle.call_words.proofs.OneTask.{one_task}
 use Rattle.walker_run.specs.declared.line.Line.{Line}
 use Rattle.walker_run.specs.declared.line.Line.TheVariants.{TypeTold, Accepted, TessLine, TessKinds, RulesShape}
 use Rattle.walker_run.specs.Runs.{Call}
 use Rattle.walker_run.specs.Held.{Outcome, Loaded, Refused, Lesson, Holds, HoldsTooMany, IsTess, tess_too_long, tess_line, tess_kinds, tess_loaded, IsRules, rules_too_long, rules_syntax, rules_shape, rules_broken, rules_loaded, broken_at, IsMade, made_spherical, made_rules, made_taught, RulesOf, tess_limit, rules_limit}
-use Rattle.walker_run.specs.Due.{Contents, TypeRow, type_no_tess, type_no_kind, type_told, CheckRow, check_no_tess, check_no_rules, check_accepted, SessionRow, session_no_tess, session_no_kind, session_no_rules, Row, IsDue, no_form, by_task}
+use Rattle.walker_run.specs.Due.{Contents, TypeRow, type_no_tess, type_no_kind, type_told, CheckRow, check_no_tess, check_no_rules, check_accepted, SessionRow, session_no_tess, session_no_kind, session_no_rules, Merges, MergeRow, merge_no_tess, merge_no_rules, merge_accepted, MakesFor, Row, IsDue, no_form, by_task}
 use Rattle.walker_run.specs.Laws.{OneLineIsDue, OneSessionIsServed, NeverBoth}
 
 -- a file holds one list of bytes, within its limit or not
@@ -148,6 +151,21 @@ module _ (contents : Contents) (kinds : List TileKind) (file : List ℕ) where
       absurd (refutes kinds a c f s (subst (λ (x : TreeAutomaton). IsFirstBroken kinds x c f s) (same_file bytes other a b holds holds' spelt also) broken) accepted)
   one_rules (rules_loaded bytes a holds spelt accepted) (rules_loaded other b holds' also accepted') = ap (λ (x : TreeAutomaton). Loaded x) (sym (same_file bytes other a b holds holds' spelt also))
 
+  -- rules that are loaded meet the twelve conditions
+  abbrev AreGood : Outcome TreeAutomaton → Type 0
+  AreGood (Loaded a) = IsAccepted kinds a
+  AreGood (Refused line) = Unit {0}
+
+  good : {o : Outcome TreeAutomaton} → IsRules contents kinds file o → AreGood o
+  good (rules_too_long long) = tt
+  good (rules_syntax bytes holds none) = tt
+  good (rules_shape bytes d part i holds text fault) = tt
+  good (rules_broken bytes a c f s holds spelt broken) = tt
+  good (rules_loaded bytes a holds spelt accepted) = accepted
+
+  pub accepted_rules : {a : TreeAutomaton} → IsRules contents kinds file (Loaded a) → IsAccepted kinds a
+  accepted_rules is = good is
+
 -- rules that are made come to one outcome
 module _ (lesson : Lesson) (kinds : List TileKind) (cells : ℕ) where
   pub one_made : {o : Outcome TreeAutomaton} → IsMade lesson kinds cells o → {p : Outcome TreeAutomaton} → IsMade lesson kinds cells p → o ≡ p
@@ -170,6 +188,36 @@ one_rules_of contents lesson kinds (FromTeacher cells) o p one two = one_made le
 same_rules_of : (contents : Contents) (lesson : Lesson) (kinds kinds' : List TileKind) (rules : RulesFrom) (o p : Outcome TreeAutomaton) → kinds ≡ kinds' → RulesOf contents lesson kinds rules o → RulesOf contents lesson kinds' rules p → o ≡ p
 same_rules_of contents lesson kinds kinds' rules o p same one two =
     one_rules_of contents lesson kinds rules o p one (subst (λ (ks : List TileKind). RulesOf contents lesson ks rules p) (sym same) two)
+
+-- what is left of rules is one automaton
+module _ (contents : Contents) (tess rules : List ℕ) where
+  same_merge : (kinds : List TileKind) (a b : TreeAutomaton) → Merges contents tess rules kinds a → Merges contents tess rules kinds b → b ≡ a
+  same_merge kinds a b one two =
+      let outcome = one_rules contents kinds rules two.read one.read in
+      let source : two.source ≡ one.source = cc outcome in
+      let merged : IsMerged kinds one.source two.classes b = subst (λ (x : TreeAutomaton). IsMerged kinds x two.classes b) source two.merged in
+      (one_merging kinds one.source (accepted_rules contents kinds rules one.read) one.classes a one.merged two.classes b merged).1
+
+  pub one_merge : (kinds kinds' : List TileKind) (a b : TreeAutomaton) → Merges contents tess rules kinds a → Merges contents tess rules kinds' b → b ≡ a
+  one_merge kinds kinds' a b one two =
+      same_merge kinds a b one (subst (λ (ks : List TileKind). Merges contents tess rules ks b) (one_loaded contents tess two.loaded one.loaded) two)
+
+  -- nothing is left of rules that are refused
+  pub unmerged : (kinds kinds' : List TileKind) (a : TreeAutomaton) (line : Line) → Merges contents tess rules kinds a → IsTess contents tess (Loaded kinds') → IsRules contents kinds' rules (Refused line) → ⊥
+  unmerged kinds kinds' a line merges is refused =
+      let same = same_rules_of contents None kinds kinds' (FromFile rules) (Loaded merges.source) (Refused line) (one_loaded contents tess merges.loaded is) merges.read refused in
+      cc same
+
+-- rules that are made for a task are no others
+pub one_makes : (contents : Contents) (lesson : Lesson) (task : Task) (kinds kinds' : List TileKind) (a b : TreeAutomaton) → MakesFor contents lesson task kinds a → MakesFor contents lesson task kinds' b → b ≡ a
+one_makes contents lesson (TellType tess k walk) kinds kinds' a b one two = absurd one
+one_makes contents lesson (CheckRules tess rules) kinds kinds' a b one two = absurd one
+one_makes contents lesson (RunSession tess k rules) kinds kinds' a b one two = absurd one
+one_makes contents lesson (LearnRules tess cells out) kinds kinds' a b one two =
+    let outcome = same_rules_of contents lesson kinds kinds' (FromTeacher cells) (Loaded a) (Loaded b) (one_loaded contents tess one.loaded two.loaded) one.made two.made in
+    let same : a ≡ b = cc outcome in
+    sym same
+one_makes contents lesson (MergeRules tess rules out) kinds kinds' a b one two = one_merge contents tess rules kinds kinds' a b one two
 
 -- the rows of a form say one line
 module _ (contents : Contents) (tess : List ℕ) (k : ℕ) (walk : List Letter) where
@@ -222,11 +270,29 @@ module _ (contents : Contents) (lesson : Lesson) (tess : List ℕ) (k : ℕ) (ru
   unrefused kinds a is lt loaded (session_no_rules kinds' line is' lt' refused) =
       let same = same_rules_of contents lesson kinds kinds' rules (Loaded a) (Refused line) (one_loaded contents tess is is') loaded refused in cc same
 
+module _ (contents : Contents) (tess rules : List ℕ) where
+  one_left : {line : Line} → MergeRow contents tess rules line → {other : Line} → MergeRow contents tess rules other → line ≡ other
+  one_left (merge_no_tess line is) (merge_no_tess other is') = one_refusal contents tess is is'
+  one_left (merge_no_tess line is) (merge_no_rules kinds other is' refused) = absurd (not_refused_too contents tess is' is)
+  one_left (merge_no_tess line is) (merge_accepted kinds a merges) = absurd (not_refused_too contents tess merges.loaded is)
+  one_left (merge_no_rules kinds line is refused) (merge_no_tess other is') = absurd (not_refused_too contents tess is is')
+  one_left (merge_no_rules kinds line is refused) (merge_no_rules kinds' other is' refused') =
+      let same = same_rules_of contents None kinds kinds' (FromFile rules) (Refused line) (Refused other) (one_loaded contents tess is is') refused refused' in cc same
+  one_left (merge_no_rules kinds line is refused) (merge_accepted kinds' a merges) =
+      let same = same_rules_of contents None kinds kinds' (FromFile rules) (Refused line) (Loaded merges.source) (one_loaded contents tess is merges.loaded) refused merges.read in absurd (cc same)
+  one_left (merge_accepted kinds a merges) (merge_no_tess other is') = absurd (not_refused_too contents tess merges.loaded is')
+  one_left (merge_accepted kinds a merges) (merge_no_rules kinds' other is' refused) =
+      let same = same_rules_of contents None kinds kinds' (FromFile rules) (Loaded merges.source) (Refused other) (one_loaded contents tess merges.loaded is') merges.read refused in absurd (cc same)
+  one_left (merge_accepted kinds a merges) (merge_accepted kinds' b merges') =
+      let same : b ≡ a = one_merge contents tess rules kinds kinds' a b merges merges' in
+      λ i. Accepted (length (sym same i).states) (length (sym same i).corners)
+
 one_row : (contents : Contents) (lesson : Lesson) (task : Task) (line other : Line) → Row contents lesson task line → Row contents lesson task other → line ≡ other
 one_row contents lesson (TellType tess k walk) line other one two = one_type contents tess k walk one two
 one_row contents lesson (CheckRules tess rules) line other one two = one_check contents lesson tess (FromFile rules) one two
 one_row contents lesson (RunSession tess k rules) line other one two = one_refused contents lesson tess k rules one two
 one_row contents lesson (LearnRules tess cells out) line other one two = one_check contents lesson tess (FromTeacher cells) one two
+one_row contents lesson (MergeRules tess rules out) line other one two = one_left contents tess rules one two
 
 -- a line that is due to words that ask for a task stands in the rows of that task
 pub row_of : (call : Call) (task : Task) → Ask call.words task → {line : Line} → IsDue call line → Row call.contents call.lesson task line

@@ -3,22 +3,25 @@
 -- No fault of the outside and no want of memory comes between.
 -- Of a fault of the outside it is said which files may be fetched.
 -- Each form of the words has rows of its own.
-use Rattle.std.specs.Prelude.{ℕ, ◌<◌, ◌≤◌, List, length, Option, Some, None}
+use Rattle.std.specs.Prelude.{◌≡◌, ℕ, ◌<◌, ◌≤◌, List, length, Option, Some, None}
 use Rattle.tile_model.specs.declared.Letter.{Letter}
 use Rattle.tile_model.specs.Tessellations.{TileKind}
 use Rattle.tile_model.specs.Walks.{type_of}
 use Rattle.tile_model.specs.Validity.{IsValid}
 use Rattle.tree_model.specs.Automata.{TreeAutomaton}
 use Rattle.tess_text.specs.Spelling.{IsSpelling}
-use Rattle.call_words.specs.Tasks.{Task, TellType, CheckRules, RunSession, LearnRules, Ask}
-use Rattle.call_words.specs.Tasks.{HaveNoForm, IsRunForm, RulesFrom, FromFile, FromTeacher}
+use Rattle.merge_model.specs.Merging.{IsMerged}
+use Rattle.call_words.specs.Tasks.{Task, TellType, CheckRules, RunSession, LearnRules, MergeRules}
+use Rattle.call_words.specs.Tasks.{Ask, HaveNoForm, IsRunForm, RulesFrom, FromFile, FromTeacher}
+use Rattle.call_words.specs.Tasks.{stored_in}
 use Rattle.walker_run.specs.declared.line.Role.{Role}
 use Rattle.walker_run.specs.declared.line.Role.TheVariants.{Tess, Rules}
 use Rattle.walker_run.specs.declared.line.Line.{Line}
 use Rattle.walker_run.specs.declared.line.Line.TheVariants.{TypeTold, Accepted, Usage, FileFault}
 use Rattle.walker_run.specs.declared.line.Line.TheVariants.{StoreFault}
 use Rattle.walker_run.specs.Runs.{Call}
-use Rattle.walker_run.specs.Held.{Loaded, Refused, Holds, IsTess, IsMade, RulesOf, tess_limit}
+use Rattle.walker_run.specs.Held.{Loaded, Refused, Holds, IsTess, IsRules, IsMade, RulesOf}
+use Rattle.walker_run.specs.Held.{tess_limit}
 use Rattle.walker_run.specs.Held.{Lesson}
 
 -- what each file holds, by its name
@@ -90,12 +93,43 @@ pub data SessionRow
       → RulesOf contents lesson kinds rules (Refused line)
       → SessionRow contents lesson tess k rules line
 
+-- What is left of the rules that a file holds, once their states are merged that no path tells
+-- apart.
+pub record Merges
+    (contents : Contents) (tess rules : List ℕ) (kinds : List TileKind)
+    (automaton : TreeAutomaton) : Type 0 where
+  pub source : TreeAutomaton
+  pub classes : List (Option ℕ)
+  pub loaded : IsTess contents tess (Loaded kinds)
+  pub read : IsRules contents kinds rules (Loaded source)
+  pub merged : IsMerged kinds source classes automaton
+
+-- the rows of the form `merge`
+pub data MergeRow (contents : Contents) (tess rules : List ℕ) : Line → Type 0 where
+  -- the tessellation file is refused
+  merge_no_tess :
+      (line : Line)
+      → IsTess contents tess (Refused line)
+      → MergeRow contents tess rules line
+  -- the rules file is refused
+  merge_no_rules :
+      (kinds : List TileKind) (line : Line)
+      → IsTess contents tess (Loaded kinds)
+      → IsRules contents kinds rules (Refused line)
+      → MergeRow contents tess rules line
+  -- the rules are accepted, and these are left of them
+  merge_accepted :
+      (kinds : List TileKind) (a : TreeAutomaton)
+      → Merges contents tess rules kinds a
+      → MergeRow contents tess rules (Accepted (length a.states) (length a.corners))
+
 -- the rows of a task
 abbrev pub Row : Contents → Lesson → Task → Line → Type 0
 Row contents lesson (TellType tess k walk) = TypeRow contents tess k walk
 Row contents lesson (CheckRules tess rules) = CheckRow contents lesson tess (FromFile rules)
 Row contents lesson (RunSession tess k rules) = SessionRow contents lesson tess k rules
 Row contents lesson (LearnRules tess cells out) = CheckRow contents lesson tess (FromTeacher cells)
+Row contents lesson (MergeRules tess rules out) = MergeRow contents tess rules
 
 pub data IsDue (call : Call) : Line → Type 0 where
   -- the words are in no form
@@ -142,6 +176,8 @@ FetchesFor contents (RunSession tess k (FromFile rules)) Rules =
     (kinds : List TileKind) × IsTess contents tess (Loaded kinds) × (k < length kinds)
 FetchesFor contents (RunSession tess k (FromTeacher cells)) Rules = ⊥
 FetchesFor contents (LearnRules tess cells out) Rules = ⊥
+FetchesFor contents (MergeRules tess rules out) Rules =
+    (kinds : List TileKind) × IsTess contents tess (Loaded kinds)
 
 -- the call asks for a task that fetches the file of this role
 pub record Fetches (call : Call) (role : Role) : Type 0 where
@@ -156,15 +192,34 @@ pub record Makes
   pub loaded : IsTess contents tess (Loaded kinds)
   pub made : IsMade lesson kinds cells (Loaded automaton)
 
--- where a task stores rules
-abbrev pub StoresFor : Contents → Lesson → Task → Type 0
-StoresFor contents lesson (TellType tess k walk) = ⊥
-StoresFor contents lesson (CheckRules tess rules) = ⊥
-StoresFor contents lesson (RunSession tess k rules) = ⊥
-StoresFor contents lesson (LearnRules tess cells None) = ⊥
-StoresFor contents lesson (LearnRules tess cells (Some out)) =
-    (kinds : List TileKind) × (automaton : TreeAutomaton)
-    × Makes contents lesson tess cells kinds automaton
+-- these rules are made for a task, over these kinds
+abbrev pub MakesFor : Contents → Lesson → Task → List TileKind → TreeAutomaton → Type 0
+MakesFor contents lesson (TellType tess k walk) kinds a = ⊥
+MakesFor contents lesson (CheckRules tess rules) kinds a = ⊥
+MakesFor contents lesson (RunSession tess k rules) kinds a = ⊥
+MakesFor contents lesson (LearnRules tess cells out) kinds a =
+    Makes contents lesson tess cells kinds a
+MakesFor contents lesson (MergeRules tess rules out) kinds a = Merges contents tess rules kinds a
+
+-- the task is to make rules
+abbrev pub IsToMake : Task → Type 0
+IsToMake (TellType tess k walk) = ⊥
+IsToMake (CheckRules tess rules) = ⊥
+IsToMake (RunSession tess k rules) = ⊥
+IsToMake (LearnRules tess cells out) = Unit {0}
+IsToMake (MergeRules tess rules out) = Unit {0}
+
+-- the task names this file to store rules in
+abbrev pub StoresAs : Task → List ℕ → Type 0
+StoresAs task file = stored_in task ≡ Some file
+
+-- where a task stores rules: it names a file for them, and they are made
+pub record StoresFor (contents : Contents) (lesson : Lesson) (task : Task) : Type 0 where
+  pub file : List ℕ
+  pub kinds : List TileKind
+  pub automaton : TreeAutomaton
+  pub named : StoresAs task file
+  pub makes : MakesFor contents lesson task kinds automaton
 
 -- the call asks for a task that stores rules
 pub record Stores (call : Call) : Type 0 where

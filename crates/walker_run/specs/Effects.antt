@@ -10,8 +10,8 @@ use Rattle.state_learner.specs.Learning.{HasClosed}
 use Rattle.state_learner.specs.GiveUps.{GiveUp}
 use Rattle.way_io.specs.Counts.{Rose}
 use Rattle.way_io.specs.Contents.{KeepsAll}
-use Rattle.call_words.specs.Tasks.{Task, TellType, CheckRules, RunSession, LearnRules, Ask}
-use Rattle.call_words.specs.Tasks.{HaveNoForm}
+use Rattle.call_words.specs.Tasks.{Task, TellType, CheckRules, RunSession, LearnRules, MergeRules}
+use Rattle.call_words.specs.Tasks.{Ask, HaveNoForm}
 use Rattle.walker_run.specs.declared.line.Role.{Role}
 use Rattle.walker_run.specs.declared.line.Line.{Line}
 use Rattle.walker_run.specs.declared.line.Line.TheVariants.{Usage, Accepted, FileFault, StoreFault}
@@ -22,7 +22,7 @@ use Rattle.walker_run.specs.declared.tasks.Work.{Work}
 use Rattle.walker_run.specs.declared.tasks.Work.TheVariants.{Say, Serve}
 use Rattle.walker_run.specs.Lines.{MayStore, status_of}
 use Rattle.walker_run.specs.Held.{Loaded, Refused, Lesson, IsTess, RulesOf}
-use Rattle.walker_run.specs.Due.{Contents, Row, FetchesFor, StoresFor, Makes}
+use Rattle.walker_run.specs.Due.{Contents, Row, FetchesFor, StoresFor, StoresAs, MakesFor}
 use Rattle.walker_run.specs.Outcome.{HasGivenUpOn, IsClosedFor, IsGivenUpFor}
 
 -- what the files tell at one moment, and what a teacher tells
@@ -114,6 +114,7 @@ abbrev pub ServesFor : Contents → Lesson → Task → List TileKind → TreeAu
 ServesFor contents lesson (TellType tess k walk) kinds a kind = ⊥
 ServesFor contents lesson (CheckRules tess rules) kinds a kind = ⊥
 ServesFor contents lesson (LearnRules tess cells out) kinds a kind = ⊥
+ServesFor contents lesson (MergeRules tess rules out) kinds a kind = ⊥
 ServesFor contents lesson (RunSession tess k rules) kinds a kind =
     IsTess contents tess (Loaded kinds)
     × RulesOf contents lesson kinds rules (Loaded a)
@@ -135,21 +136,6 @@ pub data FitsTask (contents : Contents) (lesson : Lesson) (task : Task) : End �
       → FitsTask contents lesson task (Opens kinds a k)
   fits_nothing : FitsTask contents lesson task Lacks
 
--- the task names this file to store rules in
-abbrev pub StoresAs : Task → List ℕ → Type 0
-StoresAs (TellType tess k walk) file = ⊥
-StoresAs (CheckRules tess rules) file = ⊥
-StoresAs (RunSession tess k rules) file = ⊥
-StoresAs (LearnRules tess cells out) file = out ≡ Some file
-
--- these rules are made for the task
-abbrev pub MakesFor : Contents → Lesson → Task → List TileKind → TreeAutomaton → Type 0
-MakesFor contents lesson (TellType tess k walk) kinds a = ⊥
-MakesFor contents lesson (CheckRules tess rules) kinds a = ⊥
-MakesFor contents lesson (RunSession tess k rules) kinds a = ⊥
-MakesFor contents lesson (LearnRules tess cells out) kinds a =
-    Makes contents lesson tess cells kinds a
-
 -- a file may have been stored where this is the end
 abbrev pub MayStoreAt : End → Type 0
 MayStoreAt (Says line) = MayStore (status_of line)
@@ -162,6 +148,7 @@ IsSession (TellType tess k walk) = ⊥
 IsSession (CheckRules tess rules) = ⊥
 IsSession (RunSession tess k rules) = Unit {0}
 IsSession (LearnRules tess cells out) = ⊥
+IsSession (MergeRules tess rules out) = ⊥
 
 -- A task was carried out, and came to this end.
 pub record IsCarriedOut

@@ -1,28 +1,18 @@
 -- How the status and what was appended answer to the table.
-use Rattle.std.specs.Prelude.{◌≡◌, ◌⊎◌, ℕ, ◌<◌, Bool, IsTrue, List, [], ◌∷◌, ◌++◌, length, codes}
-use Rattle.std.specs.Prelude.{decimal, Option, Some}
+use Rattle.std.specs.Prelude.{◌≡◌, ◌⊎◌, ℕ, Bool, IsTrue, List, ◌++◌, Option, Some}
 use Rattle.way_io.specs.Counts.{Rose}
 use Rattle.way_io.specs.Pieces.{AppendsPrefix}
-use Rattle.tile_model.specs.declared.Letter.{Letter}
 use Rattle.tile_model.specs.Tessellations.{TileKind}
-use Rattle.tile_model.specs.Validity.{IsValid}
-use Rattle.tile_model.specs.Walks.{type_of}
-use Rattle.tree_model.specs.Automata.{TreeAutomaton}
-use Rattle.tree_model.specs.Conditions.{IsAccepted}
-use Rattle.tess_text.specs.Spelling.{IsSpelling}
-use Rattle.rules_file.specs.Spelling.{IsRulesFile}
 use Rattle.region_grower.specs.Regions.{RegionState}
-use Rattle.regular_maker.specs.Regular.{IsRegular, IsInfinite, p_of, q_of}
-use Rattle.regular_maker.specs.Automaton.{regular_automaton}
 use Rattle.state_learner.specs.Learning.{HasClosed, HasGivenUp}
 use Rattle.state_learner.specs.GiveUps.{GiveUp}
-use Rattle.call_words.specs.Tasks.{Task, TeachesFor, IsKindForm, IsLearnForm}
+use Rattle.call_words.specs.Tasks.{Task, TeachesFor}
 use Rattle.walker_run.specs.declared.status.Status.{Status}
 use Rattle.walker_run.specs.declared.status.Status.TheVariants.{Memory, WriteFault}
 use Rattle.walker_run.specs.declared.line.Line.{Line}
 use Rattle.walker_run.specs.Lines.{IsOutside, status_of, text_of}
 use Rattle.walker_run.specs.Runs.{Call, Run, call_of}
-use Rattle.walker_run.specs.Held.{Holds, Lesson, Loaded, IsTess, tess_limit, rules_limit}
+use Rattle.walker_run.specs.Held.{Lesson, Loaded, IsTess}
 use Rattle.walker_run.specs.Due.{Contents, IsDue}
 
 -- what a run wrote, where its sink tells: exactly this, a beginning of it, or nothing
@@ -60,66 +50,6 @@ pub record ComesExactly (run : Run) (lesson : Lesson) (status : Status) : Type 0
       → IsDue (call_of run lesson) line
       → status_of line ≡ status
       → Gives run status (text_of line)
-
--- The words are `kind TESS K LETTERS`, the file holds a spelling of a tessellation within its
--- limit, and K is a kind of it.
--- The line tells the type that the walk leads to from side 0 of kind K.
-pub record TellsType (call : Call) (line : List ℕ) : Type 0 where
-  pub tess : List ℕ
-  pub k : ℕ
-  pub walk : List Letter
-  pub bytes : List ℕ
-  pub kinds : List TileKind
-  pub form : IsKindForm call.words tess k walk
-  pub holds : Holds call.contents tess tess_limit bytes
-  pub spelling : IsSpelling bytes kinds
-  pub valid : IsValid kinds
-  pub is_kind : k < length kinds
-  pub written :
-      line ≡ codes "type " ++ decimal (type_of kinds (k, 0) walk).0
-      ++ codes " " ++ decimal (type_of kinds (k, 0) walk).1 ++ codes "\n"
-
--- The words are `check TESS RULES`, both files hold what they should within their limits, and the
--- automaton meets the twelve conditions.
--- The line tells how many states and corner types it has.
-pub record TellsAccepted (call : Call) (line : List ℕ) : Type 0 where
-  pub tess : List ℕ
-  pub rules : List ℕ
-  pub tess_bytes : List ℕ
-  pub rules_bytes : List ℕ
-  pub kinds : List TileKind
-  pub automaton : TreeAutomaton
-  pub form : call.words ≡ codes "check" ∷ tess ∷ rules ∷ []
-  pub holds_tess : Holds call.contents tess tess_limit tess_bytes
-  pub holds_rules : Holds call.contents rules rules_limit rules_bytes
-  pub tess_spelling : IsSpelling tess_bytes kinds
-  pub valid : IsValid kinds
-  pub rules_spelling : IsRulesFile rules_bytes automaton
-  pub accepted : IsAccepted kinds automaton
-  pub written :
-      line ≡ codes "accepted " ++ decimal (length automaton.states)
-      ++ codes " " ++ decimal (length automaton.corners) ++ codes "\n"
-
--- The words are of the form `learn`, and the file holds a spelling of a regular tessellation with
--- infinitely many tiles, within its limit.
--- The line tells how many states and corner types its rules have.
-pub record TellsLearnt (call : Call) (line : List ℕ) : Type 0 where
-  pub tess : List ℕ
-  pub cells : ℕ
-  pub out : Option (List ℕ)
-  pub bytes : List ℕ
-  pub kinds : List TileKind
-  pub form : IsLearnForm call.words tess cells out
-  pub holds : Holds call.contents tess tess_limit bytes
-  pub spelling : IsSpelling bytes kinds
-  pub valid : IsValid kinds
-  pub regular : IsRegular kinds
-  pub infinite : IsInfinite (p_of kinds) (q_of kinds)
-  pub written :
-      line ≡ codes "accepted "
-      ++ decimal (length (regular_automaton (p_of kinds) (q_of kinds)).states)
-      ++ codes " "
-      ++ decimal (length (regular_automaton (p_of kinds) (q_of kinds)).corners) ++ codes "\n"
 
 -- The teacher gave up on this tessellation with so many cells: it counted a give-up in this call,
 -- the last one is of this tessellation and so many cells, and these regions show what that means.

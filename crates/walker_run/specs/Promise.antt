@@ -1,5 +1,5 @@
 -- What a run of the program comes to, in one place.
-use Rattle.std.specs.Prelude.{◌≡◌, ◌⊎◌, ℕ, ◌<◌, ◌≤◌, IsTrue, List, [], length, Option, Some}
+use Rattle.std.specs.Prelude.{◌≡◌, ◌⊎◌, ℕ, ◌<◌, ◌≤◌, IsTrue, List, [], length, Some}
 use Rattle.tile_model.specs.Tessellations.{TileKind}
 use Rattle.tree_model.specs.Automata.{TreeAutomaton}
 use Rattle.rules_file.specs.Spelling.{rules_text}
@@ -8,7 +8,7 @@ use Rattle.line_server.specs.Lines.{most_of_stream}
 use Rattle.line_server.specs.Endings.{GivesInOrder, TakesMore, IsBegun}
 use Rattle.way_io.specs.Counts.{Rose}
 use Rattle.way_io.specs.Contents.{KeepsAll}
-use Rattle.call_words.specs.Tasks.{Task, Ask, HaveNoForm, AreNotOfRun, IsLearnForm, IsOut}
+use Rattle.call_words.specs.Tasks.{Task, Ask, HaveNoForm, AreNotOfRun, IsOut}
 use Rattle.walker_run.specs.declared.status.Status.{Status}
 use Rattle.walker_run.specs.declared.status.Status.TheVariants.{Done, Usage, FileFault, FileTooLong}
 use Rattle.walker_run.specs.declared.status.Status.TheVariants.{TessRefused, RulesText, NotAccepted}
@@ -25,10 +25,10 @@ use Rattle.walker_run.specs.declared.line.Line.TheVariants.{GaveUp as GaveUpLine
 use Rattle.walker_run.specs.Held.{Lesson}
 use Rattle.walker_run.specs.Runs.{Run, call_of}
 use Rattle.walker_run.specs.Lines.{IsOutside, MayStore, text_of}
-use Rattle.walker_run.specs.Due.{IsDue, Serves, ServesSome, Fetches, Stores, Makes, MaySay}
-use Rattle.walker_run.specs.Outcome.{Writes, WritesBeginning, WritesNothing, Gives, GivesAtOnce}
-use Rattle.walker_run.specs.Outcome.{ComesExactly, TellsType, TellsAccepted, TellsLearnt}
-use Rattle.walker_run.specs.Outcome.{IsClosedFor, IsGivenUpFor}
+use Rattle.walker_run.specs.Due.{IsDue, Serves, ServesSome, Fetches, Stores, MaySay}
+use Rattle.walker_run.specs.Due.{IsToMake, MakesFor, StoresAs}
+use Rattle.walker_run.specs.Outcome.{Writes, WritesBeginning, WritesNothing, GivesAtOnce}
+use Rattle.walker_run.specs.Outcome.{ComesExactly, IsClosedFor, IsGivenUpFor}
 use Rattle.walker_run.specs.Serving.{OutputStands, LinesStand, RefusalStands, BeginningStands}
 
 -- the statuses that tell of the outside or of memory, where the input is read
@@ -136,18 +136,17 @@ pub record TellsWriteFault (run : Run) (lesson : Lesson) : Type 0 where
   pub begun : ((line : Line) × BeginsLine run lesson line) ⊎ IsServing run lesson
   pub counted : Rose run.before.failed_writes run.after.failed_writes
 
--- One automaton is made for the tessellation that the file holds, with so many cells: the regular
--- one, or what the teacher answered.
+-- One automaton is made for the task: the regular one or what the teacher answered, or what is left
+-- of the rules of a file.
 -- The line tells how many states and corner types it has, and where the words name a file to store
 -- rules in, that file holds exactly its canonical text.
-pub record TellsTaught
-    (run : Run) (lesson : Lesson) (tess : List ℕ) (cells : ℕ) (out : Option (List ℕ)) : Type 0 where
+pub record TellsMade (run : Run) (lesson : Lesson) (task : Task) : Type 0 where
   pub kinds : List TileKind
   pub automaton : TreeAutomaton
-  pub makes : Makes run.before.contents lesson tess cells kinds automaton
+  pub makes : MakesFor run.before.contents lesson task kinds automaton
   pub written : Writes run (text_of (Accepted (length automaton.states) (length automaton.corners)))
   pub stored :
-      (file : List ℕ) → out ≡ Some file
+      (file : List ℕ) → StoresAs task file
       → run.after.contents file ≡ Some (rules_text automaton)
 
 -- The line tells how many tiles there are.
@@ -164,16 +163,6 @@ pub record TellsGiveUp (run : Run) : Type 0 where
 
 -- The table is followed: where each status comes, and with which line.
 pub record FollowsTable (run : Run) (lesson : Lesson) : Type 0 where
-  -- What three forms write, where the files hold what it needs.
-  pub kind :
-      IsTrue run.files_tell → (line : List ℕ)
-      → TellsType (call_of run lesson) line → Gives run Done line
-  pub check :
-      IsTrue run.files_tell → (line : List ℕ)
-      → TellsAccepted (call_of run lesson) line → Gives run Done line
-  pub learn :
-      IsTrue run.files_tell → (line : List ℕ)
-      → TellsLearnt (call_of run lesson) line → Gives run Done line
   -- The statuses of lines that are due. Done comes so unless the run serves walkers.
   pub done : IsTrue run.files_tell → ServesSome (call_of run lesson) ⊎ ComesExactly run lesson Done
   pub usage : IsTrue run.files_tell → ComesExactly run lesson Usage
@@ -182,11 +171,10 @@ pub record FollowsTable (run : Run) (lesson : Lesson) : Type 0 where
   pub rules_text : IsTrue run.files_tell → ComesExactly run lesson RulesText
   pub not_accepted : IsTrue run.files_tell → ComesExactly run lesson NotAccepted
   pub spherical : IsTrue run.files_tell → ComesExactly run lesson Spherical
-  -- Done of the form `learn`, of whichever tessellation.
-  pub taught :
-      IsTrue run.files_tell → (tess : List ℕ) (cells : ℕ) (out : Option (List ℕ))
-      → IsLearnForm run.words tess cells out → run.status ≡ Done
-      → TellsTaught run lesson tess cells out
+  -- Done of the forms that make rules.
+  pub made :
+      IsTrue run.files_tell → (task : Task) → Ask run.words task → IsToMake task
+      → run.status ≡ Done → TellsMade run lesson task
   -- The statuses with which a teacher refuses.
   pub closed : run.status ≡ Closed → TellsClosed run
   pub gave_up : run.status ≡ GaveUp → TellsGiveUp run
@@ -215,7 +203,7 @@ pub record StoresRules
 
 -- what stays as it was, at each status, and what the one file holds that may be stored
 pub record KeepsOutside (run : Run) (lesson : Lesson) : Type 0 where
-  -- Every file but the one behind `--out` keeps its content.
+  -- Every file keeps its content but the one that the words name to store rules in.
   pub others :
       IsTrue run.files_tell → (file : List ℕ)
       → (IsOut run.words file → ⊥) → run.after.contents file ≡ run.before.contents file
@@ -230,11 +218,11 @@ pub record KeepsOutside (run : Run) (lesson : Lesson) : Type 0 where
   -- The rules that are made were stored before their line was written.
   pub stored :
       IsTrue run.files_tell
-      → (tess out : List ℕ) (cells : ℕ) (kinds : List TileKind) (automaton : TreeAutomaton)
-      → IsLearnForm run.words tess cells (Some out)
-      → Makes run.before.contents lesson tess cells kinds automaton
+      → (task : Task) (out : List ℕ) (kinds : List TileKind) (automaton : TreeAutomaton)
+      → Ask run.words task → StoresAs task out
+      → MakesFor run.before.contents lesson task kinds automaton
       → StoresRules run lesson out automaton
-  -- No store fails where no file is named behind `--out`.
+  -- No store fails where no file is named to store rules in.
   pub stores :
       ((file : List ℕ) → IsOut run.words file → ⊥)
       → run.after.failed_stores ≡ run.before.failed_stores

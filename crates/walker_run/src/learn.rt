@@ -44,7 +44,7 @@ pub fn learn<F: Files, T: Teacher>(
 
 /// Stores rules where a file is named for them, and tells how many states and corner types they
 /// have.
-fn keep_rules<F: Files>(
+pub fn keep_rules<F: Files>(
     alloc: Global,
     files: &mut F,
     rules: &Rules,

@@ -6,6 +6,7 @@ pub mod laws;
 mod learn;
 mod line;
 mod load;
+mod merging;
 mod say;
 mod serve;
 mod status;

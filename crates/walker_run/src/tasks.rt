@@ -11,6 +11,7 @@ ghost use Rattle.walker_run.specs.Effects.{IsCarriedOut, IsDecided};
 use crate::learn::learn;
 use crate::line::Line;
 use crate::load::{learn_rules, load_kind, load_rules, load_tess};
+use crate::merging::merge_rules;
 use crate::stop::Stop;
 use call_words::{Form, Origin, WordsFault, read_words};
 use state_learner::Teacher;
@@ -172,6 +173,7 @@ fn carry_out<F: Files, T: Teacher>(
             open_session(alloc, files, teacher, tess, *kind, *rules)
         }
         Form::Learn { tess, cells, out } => learn(alloc, files, teacher, tess, *cells, *out),
+        Form::Merge { tess, rules, out } => merge_rules(alloc, files, tess, rules, out),
     }
 }
 

@@ -31,5 +31,5 @@ returns-in_err-rules g c =
 
 pub returns : goal.returns
 returns g c =
-    keeps _ _ _ _ _ _ c.args.tess.now c.args.cells (name_of c.args.out) (lesson_of (Ok c.in_ok-rules.rules)) c.in_ok-tess.tess c.in_ok-rules.rules.automaton
-    c.in_ok-tess.ensures.effects c.in_ok-rules.ensures.ok c.in_ok-tess.ensures.ok (end_of c.keep_rules.result) c.keep_rules.ensures
+    keeps _ _ _ _ _ _ (LearnRules c.args.tess.now c.args.cells (name_of c.args.out)) (lesson_of (Ok c.in_ok-rules.rules)) c.in_ok-tess.tess c.in_ok-rules.rules.automaton
+    c.in_ok-tess.ensures.effects (λ told. record { loaded = c.in_ok-tess.ensures.ok told; made = c.in_ok-rules.ensures.ok }) (end_of c.keep_rules.result) c.keep_rules.ensures
