@@ -1,5 +1,5 @@
 -- From what the words came to to what is known of the run.
-use Rattle.std.proofs.Common.{◌≡◌, ◌⊎◌, inl, inr, ℕ, IsTrue, List, Option, Some, None, length, refl, ap, subst}
+use Rattle.std.proofs.Common.{◌≡◌, ◌⊎◌, inl, inr, ℕ, IsTrue, List, Some, None, length, refl, ap, subst}
 use Rattle.tile_model.specs.Tessellations.{TileKind}
 use Rattle.tree_model.specs.Automata.{TreeAutomaton}
 use Rattle.tree_model.specs.Conditions.{IsAccepted}
@@ -14,7 +14,7 @@ use Rattle.walker_run.specs.declared.line.Line.TheVariants.{Accepted, Usage, Fil
 use Rattle.walker_run.specs.Runs.{Call, Run, call_of}
 use Rattle.tile_model.specs.Validity.{IsValid}
 use Rattle.walker_run.specs.Held.{Outcome, Loaded, Refused, Lesson, IsTess, tess_too_long, tess_line, tess_kinds, tess_loaded, Holds, tess_limit}
-use Rattle.walker_run.specs.Due.{Contents, no_form, by_task, Serves, StoresFor, StoresAs, Stores, MakesFor, IsToMake, MaySay, due, unread, unstored}
+use Rattle.walker_run.specs.Due.{Contents, no_form, by_task, Serves, StoresAs, Stores, MakesFor, IsToMake, MaySay, due, unread, unstored}
 use Rattle.walker_run.specs.Promise.{IsClosedIn, IsGivenUpIn}
 use Rattle.walker_run.specs.Effects.{FilesSeen, End, Says, Opens, Lacks, ServesFor, FitsTask, fits_row, fits_unread, fits_unstored, fits_session, fits_nothing, MayStoreAt, IsSession, IsCarriedOut, IsDecided, formless, wordless, carried_out}
 use Rattle.walker_run.specs.Ending.{files_of, teacher_of}

@@ -3,7 +3,7 @@
 -- No fault of the outside and no want of memory comes between.
 -- Of a fault of the outside it is said which files may be fetched.
 -- Each form of the words has rows of its own.
-use Rattle.std.specs.Prelude.{◌≡◌, ℕ, ◌<◌, ◌≤◌, List, length, Option, Some, None}
+use Rattle.std.specs.Prelude.{◌≡◌, ℕ, ◌<◌, ◌≤◌, List, length, Option, Some}
 use Rattle.tile_model.specs.declared.Letter.{Letter}
 use Rattle.tile_model.specs.Tessellations.{TileKind}
 use Rattle.tile_model.specs.Walks.{type_of}

@@ -11,7 +11,7 @@ use Rattle.walker_run.specs.declared.status.Status.{Status}
 use Rattle.walker_run.specs.declared.status.Status.TheVariants.{Memory, WriteFault}
 use Rattle.walker_run.specs.declared.line.Line.{Line}
 use Rattle.walker_run.specs.Lines.{IsOutside, status_of, text_of}
-use Rattle.walker_run.specs.Runs.{Call, Run, call_of}
+use Rattle.walker_run.specs.Runs.{Run, call_of}
 use Rattle.walker_run.specs.Held.{Lesson, Loaded, IsTess}
 use Rattle.walker_run.specs.Due.{Contents, IsDue}
 
