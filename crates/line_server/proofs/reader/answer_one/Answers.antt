@@ -11,7 +11,8 @@ returns-in-Some-clause-replied g c = λ dropped whole d told.
     on_ok c.pass_names.result (passes _ _ _ _ _ _ _ _ _ named _ _) c.pass_names.ensures.said
 
 pub returns-in_err-ring-clause-failed : goal.returns-in_err-ring-clause-failed
-returns-in_err-ring-clause-failed g c = λ dropped whole d told. fails_before _ _ _ _ _ _
+returns-in_err-ring-clause-failed g c = λ dropped whole d told.
+    on_err _ (fails_before _ _ _ _ _ _)
 
 pub returns-in-Some-clause-failed : goal.returns-in-Some-clause-failed
 returns-in-Some-clause-failed g c = λ dropped whole d told.
