@@ -60,7 +60,7 @@ pub record HasGiven (old : SeatState) (room room' : List ℕ) (new : SeatState) 
 
 -- a text in a room: as much of it as fits, and zeros behind it
 abbrev pub filled : List ℕ → List ℕ → List ℕ
-filled room text = take (length room) (text ++ replicate (length room) 0)
+filled room text = take (length room) text ++ replicate (length room - length text) 0
 
 -- What becomes of a line that is handed over, by the number that is told: how many bytes waited
 -- before the first of them were given, or 2^64 less a status of the program.

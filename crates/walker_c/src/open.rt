@@ -1,5 +1,5 @@
 //! Sessions over the bytes of files.
-ghost use Rattle.std.specs.Prelude.{◌≡◌, ◌≤◌, ◌<◌, ℕ, length, IfOk, Err};
+ghost use Rattle.std.specs.Prelude.{◌≡◌, ◌≤◌, ◌<◌, ℕ, List, length, IfOk, Err};
 ghost use Rattle.tile_model.specs.Tessellations.{TileKind};
 ghost use Rattle.tree_model.specs.Automata.{TreeAutomaton};
 ghost use Rattle.call_words.specs.Tasks.{FromFile, FromTeacher};
