@@ -21,6 +21,12 @@ use crate::seat::{Seat, TellFault};
 use std::alloc::Global;
 use walker_run::{Line, Status, Stop};
 
+/// What is told in place of a length where a line holds a line feed: 2^64 less the status of usage.
+const NO_LINE: u64 = u64::MAX - 1;
+
+/// What is told where there is no memory: 2^64 less its status.
+const NO_MEMORY: u64 = u64::MAX - 10;
+
 /// What a handle points to. C never reads or writes it.
 #[repr(C)]
 pub struct WagbireluSession {
@@ -112,8 +118,8 @@ fn answer(session: &mut Seat, line: &[u8], room: &mut [u8]) -> u64
 {
     match session.tell(line) {
         Ok(()) => session.give(room) as u64,
-        Err(TellFault::Feeds) => 0u64.wrapping_sub(u64::from(Status::Usage.code())),
-        Err(TellFault::Memory) => 0u64.wrapping_sub(u64::from(Status::Memory.code())),
+        Err(TellFault::Feeds) => NO_LINE,
+        Err(TellFault::Memory) => NO_MEMORY,
     }
 }
 

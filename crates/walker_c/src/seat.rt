@@ -1,6 +1,6 @@
 //! `Seat`: a session that owns its rules, and the answers that wait to be taken.
 ghost use Rattle.std.specs.Prelude.{◌≡◌, ◌≤◌, ◌<◌, ◌++◌, ◌↔◌, ℕ, List, length, IfOk, OnOk, OnErr, IsErrOf};
-ghost use Rattle.std.specs.Prelude.{IfSome, IfNone};
+ghost use Rattle.std.specs.Prelude.{IfErr, IfSome, IfNone, drop};
 ghost use Rattle.lazy_map.specs.Texts.{most_texts};
 ghost use Rattle.structure_check.specs.Rules.{TreeRules};
 ghost use Rattle.session_core.specs.Sessions.{IsSession, session_over};
@@ -89,26 +89,13 @@ impl Seat {
         let Some(line) = whole_line(line) else {
             return Err(TellFault::Feeds);
         };
-        self.drop_given();
+        drop_given(&mut self.bytes, &mut self.given);
         let Some(resting) = self.resting.take() else {
             return Err(TellFault::Memory);
         };
         let (resting, answered) = answer(self.alloc, &self.rules, resting, line, &mut self.bytes);
         self.resting = Some(resting);
-        match answered {
-            Ok(()) => Ok(()),
-            Err(_) => Err(TellFault::Memory),
-        }
-    }
-
-    /// Lets go of the bytes that were given.
-    fn drop_given(&mut self)
-        ensures { self.new ≡ self.old }
-    {
-        let waits = self.bytes.len() - self.given;
-        self.bytes.copy_within(self.given.., 0);
-        self.bytes.truncate(waits);
-        self.given = 0;
+        answered
     }
 
     /// Puts the first of what waits into `room`, as much as fits: it waits no longer. Tells how many
@@ -136,6 +123,18 @@ fn whole_line(line: &[u8]) -> Option<&[u8]>
     }
 }
 
+/// Lets go of the bytes that were given.
+fn drop_given(bytes: &mut Vec<u8>, given: &mut usize)
+    requires { given.old ≤ length bytes.old.items }
+    ensures bytes { bytes.new.items ≡ drop given.old bytes.old.items }
+    ensures given { given.new ≡ 0 }
+{
+    let waits = bytes.len() - *given;
+    bytes.copy_within(*given.., 0);
+    bytes.truncate(waits);
+    *given = 0;
+}
+
 /// Answers a line in a session that rests, which then rests again.
 fn answer(
     alloc: Global,
@@ -143,18 +142,21 @@ fn answer(
     resting: Resting,
     line: &[u8],
     waiting: &mut Vec<u8>,
-) -> (Resting, Result<(), AllocError>)
+) -> (Resting, Result<(), TellFault>)
     requires { IsSession (session_over rules.now resting) }
     ensures session { IsSession (session_over rules.now result.0) }
     ensures answered { OnOk result.1 (HasAnsweredWhole (session_over rules.now resting) line.now
         waiting.old.items (session_over rules.now result.0) waiting.new.items) }
     ensures unchanged { OnErr result.1 (result.0 ≡ resting) }
     ensures unsaid { OnErr result.1 (waiting.new.items ≡ waiting.old.items) }
+    ensures lacks { IfErr result.1 (λ fault. fault ≡ TellFault.Memory) }
 {
     let mut session = Session::resume(rules, resting);
     if session.written() > MOST_TEXTS {
-        return (session.rest(), Err(AllocError));
+        return (session.rest(), Err(TellFault::Memory));
     }
-    let answered = answer_whole(alloc, &mut session, line, waiting);
-    (session.rest(), answered)
+    match answer_whole(alloc, &mut session, line, waiting) {
+        Ok(()) => (session.rest(), Ok(())),
+        Err(_) => (session.rest(), Err(TellFault::Memory)),
+    }
 }

@@ -10,8 +10,7 @@ returns-in-None-clause-some c = (bare, c.in-None.ensures.none)
 
 pub returns-in-Some-clause-some : goal.returns-in-Some-clause-some
 returns-in-Some-clause-some c =
-    let none = empty_of c.in-Some.rest.now (grind (arith, nat_tests)) in
-    (
+    let none = empty_of c.in-Some.rest.now (grind (arith, nat_tests)) in (
       fed c.in-Some.bare.now
           (c.in-Some.ensures.split ∙ ap (λ l. c.in-Some.bare.now ++ feed ∷ l) none),
       c.in-Some.ensures.first,
