@@ -74,7 +74,7 @@ uint64_t wagbirelu_answer(wagbirelu_session *session, const uint8_t *line, size_
 /* The status of a result of wagbirelu_answer. */
 static inline uint32_t wagbirelu_status(uint64_t answered)
 {
-    return answered > UINT64_MAX - 64 ? (uint32_t)(0 - answered) : WAGBIRELU_DONE;
+    return answered > UINT64_MAX - 64 ? (uint32_t)(0 - answered) : 0;
 }
 
 /* Closes a session, and frees all that it held, its rules too. */
