@@ -1,5 +1,5 @@
 -- One line, answered whole.
-use Rattle.std.proofs.Common.{◌≡◌, ◌↔◌, ℕ, ◌<◌, Bool, false, IsTrue, List, [], ◌++◌, length, refl, sym, ap, ◌∙◌, subst, arith}
+use Rattle.std.proofs.Common.{◌≡◌, ◌↔◌, ℕ, ◌<◌, Bool, false, IsTrue, List, [], ◌++◌, length, refl, ap, ◌∙◌, subst, arith}
 use Rattle.std.proofs.lemmas.Bool.{false≢true}
 use Rattle.std.proofs.lemmas.List.{append_assoc}
 use Rattle.std.specs.Prelude.{Option}
@@ -24,7 +24,7 @@ none_dropped = record {
 pub whole_measured :
     (is_long : Bool) (line text : List ℕ)
     → ((dropped : List ℕ) → AreDropped false dropped
-        → IsTrue is_long ↔ (most_of_line < length (dropped ++ line)))
+    → IsTrue is_long ↔ (most_of_line < length (dropped ++ line)))
     → IsMeasured is_long text line text
 whole_measured is_long line text long =
     measured is_long false [] text line text none_dropped (long [] none_dropped) (λ _. refl)

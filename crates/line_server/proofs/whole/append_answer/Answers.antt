@@ -1,4 +1,4 @@
-use Rattle.std.proofs.Common.{◌≡◌, [], ◌++◌, sym, ap, ◌∙◌}
+use Rattle.std.proofs.Common.{◌++◌, sym, ap, ◌∙◌}
 use Rattle.std.proofs.lemmas.List.{append_assoc, append-nil}
 use Rattle.std.specs.Prelude.{None, Some}
 use Rattle.line_server.proofs.Answering.{on_ok}
@@ -20,8 +20,7 @@ returns-in-Some-clause-kept c =
     let line = c.args.line.now in
     let told = c.in_ok-ring.ensures.replied line c.text_of.result.now
     (whole_measured c.is_too_long-is_long.result line c.text_of.result.now c.is_too_long-is_long.ensures) in
-    let more = c.append_names.ensures.kept in
-    (
+    let more = c.append_names.ensures.kept in (
       told.front ++ more.0,
       more.1 ∙ ap (λ l. l ++ more.0) told.waits
           ∙ append_assoc c.args.waiting.now.items told.front more.0,
