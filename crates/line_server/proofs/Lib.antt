@@ -18,3 +18,4 @@ pub mod Due
 pub mod Interleaving
 pub mod Naming
 pub mod Streams
+pub mod OneLine

@@ -5,5 +5,6 @@ pub mod Endings
 pub mod Outboxes
 pub mod Sessions
 pub mod Readers
+pub mod Whole
 pub mod Serving
 pub mod Laws

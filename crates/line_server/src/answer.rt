@@ -1,7 +1,10 @@
 //! One line, answered by a session into the bytes that wait to be written.
-ghost use Rattle.std.specs.Prelude.{◌≡◌, ℕ, ◌+◌, ◌<◌, ◌≤◌, ◌↔◌, ◌++◌, suc, List, length, IfOk, IsTrue};
+ghost use Rattle.std.specs.Prelude.{◌≡◌, ℕ, ◌+◌, ◌<◌, ◌≤◌, ◌↔◌, ◌++◌, suc, List, length, IfOk, OnErr, IsTrue};
+ghost use Rattle.std.specs.Prelude.{IfSome, IfNone, IsSome};
 ghost use Rattle.command_text.specs.CommandLines.{IsSpelling, most_of_line};
+ghost use Rattle.command_text.specs.Replies.{reply_text};
 ghost use Rattle.lazy_map.specs.Texts.{most_texts};
+ghost use Rattle.session_core.specs.Answered.{IsBrief};
 ghost use Rattle.session_core.specs.Sessions.{HasNumbers};
 ghost use Rattle.line_server.specs.Readers.{AreDropped, IsMeasured, HasAnsweredLine, names_of};
 ghost use Rattle.line_server.specs.Answering.{AreBehind};
@@ -13,6 +16,9 @@ use reply_model::{Command, Reply};
 use ring_listing::Ring;
 use session_core::{Session, laws};
 use std::alloc::{AllocError, Global};
+
+/// The most bytes of a brief reply's line.
+const LONGEST_BRIEF: usize = 10;
 
 /// Whether a line is too long of which this is the end, behind what was dropped of it, if anything
 /// was.
@@ -30,6 +36,10 @@ pub(crate) fn is_too_long(lost: bool, line: &[u8]) -> bool
 /// the bytes that wait, and behind them the names that come back follow, each as a line.
 /// Fewer than 4,294,967,295 tiles have a text before it, and at most as many more behind it as the
 /// text has bytes.
+///
+/// # Errors
+///
+/// `AllocError` where there is no memory: the session and the bytes that wait are as they were.
 pub(crate) fn answer_line<'r>(
     alloc: Global,
     session: &mut Session<'r>,
@@ -42,6 +52,9 @@ pub(crate) fn answer_line<'r>(
     ensures replied { (line whole : List ℕ) → IsMeasured is_long text.now line whole
         → IfOk result (λ names. HasAnsweredLine session.old line whole waiting.old.items
         session.new waiting.new.items (names_of names)) }
+    ensures listed { IfOk result (λ names. IsSome names → session.new ≡ session.old) }
+    ensures unchanged { OnErr result (session.new ≡ session.old) }
+    ensures unsaid { OnErr result (waiting.new.items ≡ waiting.old.items) }
 {
     if is_long {
         waiting.extend_from_slice(too_long_line())?;
@@ -60,7 +73,8 @@ pub(crate) fn answer_line<'r>(
     }
 }
 
-/// Answers a command: appends the line of its reply, and gives the names that follow.
+/// Answers a command: appends the line of its reply, and gives the names that follow. All room that
+/// the reply may need is taken before anything changes; a command that asks changes nothing.
 fn answer_command<'r>(
     session: &mut Session<'r>,
     command: &Command,
@@ -73,14 +87,39 @@ fn answer_command<'r>(
         → IsSpelling text command.now
         → IfOk result (λ names. HasAnsweredLine session.old line text waiting.old.items
         session.new waiting.new.items (names_of names)) }
+    ensures listed { IfOk result (λ names. IsSome names → session.new ≡ session.old) }
+    ensures unchanged { OnErr result (session.new ≡ session.old) }
+    ensures unsaid { OnErr result (waiting.new.items ≡ waiting.old.items) }
 {
+    waiting.reserve(LONGEST_BRIEF)?;
     // The session answers by what the tree says, before and after, and that is what walks say.
     laws::readings(session);
     let reply = session.apply(command)?;
     laws::readings(session);
+    if let Some(text) = brief_line(&reply) {
+        waiting.extend_from_slice(text)?;
+        return Ok(None);
+    }
     let names = names_behind(session, &reply)?;
     write_reply(waiting, &reply)?;
     Ok(names)
+}
+
+/// The line of a brief reply.
+fn brief_line(x: &Reply) -> Option<&'static [u8]>
+    ensures line { IfSome result (λ text. text.now ≡ reply_text x.now) }
+    ensures short { IfSome result (λ text. length text.now ≤ 10) }
+    ensures one { IfSome result (λ _. IsBrief x.now) }
+    ensures none { IfNone result (¬ IsBrief x.now) }
+{
+    match x {
+        Reply::Done => Some(b"ok\n"),
+        Reply::Taken => Some(b"taken\n"),
+        Reply::NoWalker => Some(b"no walker\n"),
+        Reply::Deep => Some(b"deep\n"),
+        Reply::Long => Some(b"long\n"),
+        _ => None,
+    }
 }
 
 /// The names that follow the line of a reply: those of the ring that it lists.

@@ -6,6 +6,8 @@ pub mod laws;
 mod lines;
 mod reader;
 mod stream;
+mod whole;
 mod writing;
 
 pub use stream::{Ending, serve};
+pub use whole::answer_whole;

@@ -4,7 +4,9 @@ use Rattle.ring_listing.specs.declared.fault.CountFault.{CountFault}
 use Rattle.ring_listing.specs.declared.fault.CountFault.TheVariants.{Far as TooFar, TooBig as OneTooBig, Memory}
 use Rattle.reply_model.specs.declared.Command.{Command}
 use Rattle.reply_model.specs.declared.Reply.{Reply}
+use Rattle.reply_model.specs.declared.Command.TheVariants.{New, Go, Put}
 use Rattle.reply_model.specs.declared.Reply.TheVariants.{Far, TooBig}
+use Rattle.reply_model.specs.declared.Reply.TheVariants.{Done, Taken, NoWalker, Deep, Long}
 use Rattle.reply_model.specs.Histories.{History}
 use Rattle.session_core.specs.Sessions.{SessionState, StandsFor, IsDueOverTree}
 
@@ -21,6 +23,22 @@ pub record HasAnswered (old : SessionState) (c : Command) (x : Reply) (new : Ses
     pub stands : (history : History) → StandsFor old history → StandsFor new (extended history c x)
     pub rules : new.rules ≡ old.rules
     pub kind : new.kind ≡ old.kind
+
+-- the commands that ask: all but those that make and move walkers and write texts
+abbrev pub Asks : Command → Type 0
+Asks (New w) = ⊥
+Asks (Go w walk) = ⊥
+Asks (Put w text) = ⊥
+Asks _ = Unit {0}
+
+-- the replies to the other commands: each of them is a word or two
+abbrev pub IsBrief : Reply → Type 0
+IsBrief Done = Unit {0}
+IsBrief Taken = Unit {0}
+IsBrief NoWalker = Unit {0}
+IsBrief Deep = Unit {0}
+IsBrief Long = Unit {0}
+IsBrief _ = ⊥
 
 -- the reply that says why a ring is not counted, but for want of memory
 abbrev pub refusal_of : CountFault → Option Reply

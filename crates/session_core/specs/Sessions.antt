@@ -28,6 +28,22 @@ pub record SessionState : Type 0 where
   pub walkers : List (Option TreeSpot)
   pub texts : Texts
 
+-- what a session keeps while it has no rules
+pub record RestingState : Type 0 where
+  pub kind : ℕ
+  pub walkers : List (Option TreeSpot)
+  pub texts : Texts
+
+-- the session that goes on from there over these rules
+abbrev pub session_over : TreeRules → RestingState → SessionState
+session_over rules resting =
+    record {
+      rules = rules;
+      kind = resting.kind;
+      walkers = resting.walkers;
+      texts = resting.texts;
+    }
+
 -- the spot of walker w, if there is this walker
 abbrev pub walker_at : SessionState → ℕ → Option TreeSpot
 walker_at session w = slice_index_or session.walkers w None

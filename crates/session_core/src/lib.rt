@@ -2,6 +2,8 @@
 #![tactic(auto)]
 
 pub mod laws;
+mod resting;
 mod session;
 
+pub use resting::Resting;
 pub use session::Session;

@@ -1,14 +1,16 @@
 //! `Session`: walkers and texts in the tree of one kind, and what is answered to commands.
 ghost use Rattle.std.specs.Prelude.{◌≡◌, ◌<◌, ◌≤◌, ◌↔◌, suc, [], length, replicate, None, Some};
-ghost use Rattle.std.specs.Prelude.{MatchOption, IfOk, OnErr, IsTrue};
+ghost use Rattle.std.specs.Prelude.{MatchOption, ◌⊎◌, IfOk, OnErr, IsTrue};
 ghost use Rattle.tree_model.specs.Names.{IsRing};
 ghost use Rattle.reply_model.specs.declared.Command.{Command};
 ghost use Rattle.lazy_map.specs.Texts.{most_texts};
 ghost use Rattle.reply_model.specs.Histories.{History, most_walkers};
 ghost use Rattle.session_core.specs.Sessions.{IsSession, HasNumbers, walker_at};
 ghost use Rattle.session_core.specs.Sessions.{HaveTexts, StandsFor, StandsForWalks, session_over_tree};
-ghost use Rattle.session_core.specs.Answered.{HasAnswered, refusal_of};
+ghost use Rattle.session_core.specs.Sessions.{session_over};
+ghost use Rattle.session_core.specs.Answered.{HasAnswered, Asks, IsBrief, refusal_of};
 
+use crate::resting::Resting;
 use cell_distance::{DistFault, spot_distance, spot_shortest};
 use lazy_map::{LazyMap, PutFault};
 use reply_model::{Bytes, Command, Reply, WALKERS};
@@ -75,6 +77,46 @@ impl<'r> Session<'r> {
         })
     }
 
+    /// Goes on from where a session came to rest, over the rules that it was over. Takes no memory.
+    pub fn resume(rules: &'r Rules, resting: Resting) -> Session<'r>
+        requires { IsSession (session_over rules.now resting) }
+        ensures { result ≡ session_over rules.now resting }
+    {
+        let Resting {
+            kind,
+            walkers,
+            texts,
+        } = resting;
+        let rings = RingSizes::new(*walkers.allocator(), rules, kind);
+        Session {
+            rules,
+            kind,
+            walkers,
+            texts,
+            rings,
+        }
+    }
+
+    /// Lets go of the rules, and keeps the walkers and the texts. The sizes of rings that were
+    /// counted are forgotten.
+    pub fn rest(self) -> Resting
+        ensures rests { session_over self.entry.rules result ≡ self.entry }
+        ensures session { IsSession self.entry }
+    {
+        let Session {
+            rules: _,
+            kind,
+            walkers,
+            texts,
+            rings: _,
+        } = self;
+        Resting {
+            kind,
+            walkers,
+            texts,
+        }
+    }
+
     /// Does what the command says and answers its reply.
     /// The numbers of walkers in the command are below 64, and fewer than 4,294,967,295 tiles have a text.
     /// To `ring` it answers how many names there are, and [`Session::names_of_ring`] gives them.
@@ -91,6 +133,10 @@ impl<'r> Session<'r> {
         ensures unchanged { OnErr result (self.new ≡ self.old) }
         ensures rules { self.new.rules ≡ self.old.rules }
         ensures kind { self.new.kind ≡ self.old.kind }
+
+        // A command that asks leaves walkers and texts as they were, and any other has a brief reply.
+        ensures asked { Asks c.now → self.new ≡ self.old }
+        ensures brief { IfOk result (λ x. Asks c.now ⊎ IsBrief x) }
 
         // At most one tile more has a text.
         ensures written { length self.new.texts ≤ suc (length self.old.texts) }
@@ -145,6 +191,7 @@ impl<'r> Session<'r> {
     fn new_walker(&mut self, w: u8) -> Result<Reply, AllocError>
         requires { w < most_walkers }
         ensures answered { IfOk result (λ x. HasAnswered self.old (Command.New w) x self.new) }
+        ensures brief { IfOk result IsBrief }
         ensures unchanged { OnErr result (self.new ≡ self.old) }
         ensures texts { self.new.texts ≡ self.old.texts }
     {
@@ -161,6 +208,7 @@ impl<'r> Session<'r> {
         requires { w < most_walkers }
         ensures answered { IfOk result
             (λ x. HasAnswered self.old (Command.Go w path.now) x self.new) }
+        ensures brief { IfOk result IsBrief }
         ensures unchanged { OnErr result (self.new ≡ self.old) }
         ensures texts { self.new.texts ≡ self.old.texts }
     {
@@ -263,6 +311,7 @@ impl<'r> Session<'r> {
         requires room { length self.old.texts < most_texts }
         ensures answered { IfOk result
             (λ x. HasAnswered self.old (Command.Put w text.now) x self.new) }
+        ensures brief { IfOk result IsBrief }
         ensures unchanged { OnErr result (self.new ≡ self.old) }
         ensures written { length self.new.texts ≤ suc (length self.old.texts) }
     {

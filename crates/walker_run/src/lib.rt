@@ -17,5 +17,7 @@ mod words;
 
 pub use line::{Line, Role};
 pub use status::Status;
+pub use stop::Stop;
+pub use tasks::{Work, open_file, open_taught};
 pub use top::run;
 pub use words::words_read;

@@ -78,7 +78,7 @@ fn check_rules<F: Files>(
 }
 
 /// The rules of a file over the tessellation of a file, and a kind of it, to serve walkers over.
-fn open_file<F: Files>(
+pub fn open_file<F: Files>(
     alloc: Global,
     files: &mut F,
     tess: &str,
@@ -100,7 +100,7 @@ fn open_file<F: Files>(
 
 /// The rules that a teacher answers for the tessellation of a file, and a kind of it, to serve
 /// walkers over.
-fn open_taught<F: Files, T: Teacher>(
+pub fn open_taught<F: Files, T: Teacher>(
     alloc: Global,
     files: &mut F,
     teacher: &mut T,

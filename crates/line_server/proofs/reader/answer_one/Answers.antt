@@ -1,5 +1,5 @@
 use Rattle.std.specs.Prelude.{None, Some}
-use Rattle.line_server.proofs.Answering.{on_ok, on_err, then_err, measured, now_named, passes, breaks}
+use Rattle.line_server.proofs.Answering.{on_ok, on_err, then_err, fails_before, measured, now_named, passes, breaks}
 use Rattle.line_server.proofs.reader.answer_one.Goals as goal
 
 pub returns-in-Some-clause-replied : goal.returns-in-Some-clause-replied
@@ -9,6 +9,10 @@ returns-in-Some-clause-replied g c = λ dropped whole d told.
     let answered = c.in_ok-ring.ensures.replied _ whole line in
     let named = now_named _ _ _ _ _ _ _ (Some c.in-Some.ring) c.in-Some.is answered in
     on_ok c.pass_names.result (passes _ _ _ _ _ _ _ _ _ named _ _) c.pass_names.ensures.said
+
+pub returns-in_err-ring-clause-failed : goal.returns-in_err-ring-clause-failed
+returns-in_err-ring-clause-failed g c = λ dropped whole d told.
+    on_err _ (fails_before _ _ _ _ _ _)
 
 pub returns-in-Some-clause-failed : goal.returns-in-Some-clause-failed
 returns-in-Some-clause-failed g c = λ dropped whole d told.
