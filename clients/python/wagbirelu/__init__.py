@@ -23,6 +23,7 @@ from wagbirelu.errors import (
     WagbireluError,
 )
 from wagbirelu.lines import Line, Place
+from wagbirelu.maps import Map
 from wagbirelu.program import call, find_program, learn
 from wagbirelu.session import Session
 from wagbirelu.tessellation import Corner, Fault, Kind, Side, Tessellation
@@ -30,7 +31,7 @@ from wagbirelu.walker import Seen, Walker
 from wagbirelu.walks import backwards, name_of, sides_of, way_between, way_to
 
 __all__ = [
-    "Bad", "Corner", "Deep", "Ended", "Far", "Fault", "Kind", "Line", "LongText", "NoRoom", "NoWalker",
+    "Bad", "Corner", "Deep", "Ended", "Far", "Fault", "Kind", "Line", "LongText", "Map", "NoRoom", "NoWalker",
     "Place", "ProgramMissing", "Refusal", "Seen", "Session", "Side", "Taken", "TessError", "Tessellation", "TooBig",
     "TooLong", "TooMany", "WagbireluError", "Walker", "backwards", "call", "find_program", "learn", "lines", "name_of",
     "sides_of", "way_between", "way_to",

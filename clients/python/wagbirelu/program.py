@@ -6,9 +6,9 @@ import os
 import shutil
 import subprocess
 import tempfile
+from contextlib import contextmanager
 from pathlib import Path
 from typing import Iterator, Optional, Sequence, Tuple, Union
-from contextlib import contextmanager
 
 from wagbirelu.errors import Ended, ProgramMissing, TessError
 from wagbirelu.tessellation import Tessellation
@@ -78,9 +78,16 @@ def tess_file(tess: Tess) -> Iterator[str]:
     if not isinstance(tess, Tessellation):
         yield os.fspath(tess)
         return
+    with held(tess.text.encode("utf-8", "surrogateescape"), "map.tess") as path:
+        yield path
+
+
+@contextmanager
+def held(data: bytes, name: str) -> Iterator[str]:
+    """The path of a file with these bytes, which is there as long as the block runs."""
     with tempfile.TemporaryDirectory() as folder:
-        path = Path(folder) / "map.tess"
-        path.write_bytes(tess.text.encode("utf-8", "surrogateescape"))
+        path = Path(folder) / name
+        path.write_bytes(data)
         yield str(path)
 
 

@@ -54,6 +54,9 @@ class Session:
     One thread at a time may call a session.
     """
 
+    #: So many walkers `walker` makes.
+    walkers_at_most = WALKERS
+
     def __init__(
         self,
         tess: Tess,
@@ -63,20 +66,28 @@ class Session:
         program: Optional[PathLike] = None,
     ) -> None:
         self.kind = kind
+        self.program = find_program(program)
+        self._pipe: Optional[Pipe] = None
+        self._status = 0
         self._spare: List[int] = []
         self._made = 0
         with tess_file(tess) as path:
-            words = [find_program(program), "run", path, str(kind)]
-            if rules is not None:
-                words += ["--rules", os.fspath(rules)]
-            if cells is not None:
-                words += ["--cells", str(cells)]
-            self._pipe: Optional[Pipe] = Pipe(words)
-            # The first answer comes when the files are read and the rules are there; a refusal comes in its place.
-            answer = decoded(self._raw([b"count 0"])[0][0])
-            if answer != "count 1":
-                raise Ended(self.close(), answer, explained(tess, answer))
+            self._start(path, rules, cells)
         self.tessellation = tess if isinstance(tess, Tessellation) else Tessellation.read(tess)
+
+    def _start(self, tess: str, rules: Optional[PathLike], cells: Optional[int] = None) -> None:
+        """Starts the program, and waits until it has read its files and has its rules."""
+        words = [self.program, "run", tess, str(self.kind)]
+        if rules is not None:
+            words += ["--rules", os.fspath(rules)]
+        if cells is not None:
+            words += ["--cells", str(cells)]
+        self._pipe = Pipe(words)
+        self._pipe.write(b"count 0\n")
+        # A refusal of the words or the files comes in the place of the first answer.
+        answer = decoded(self._lines(self._pipe, 1)[0])
+        if answer != "count 1":
+            raise Ended(self.close(), answer, explained(tess, answer))
 
     # --- each line as a method ---
 
@@ -194,12 +205,12 @@ class Session:
             walker = Walker(self, self._spare.pop())
             walker.go_home()
             return walker
-        while self._made < WALKERS:
+        while self._made < self.walkers_at_most:
             self._made += 1
             reply = self._raw([b"new %d" % (self._made - 1)])[0][0]
             if reply == b"ok":
                 return Walker(self, self._made - 1)
-        raise WagbireluError(f"there are {WALKERS} walkers; let one go")
+        raise WagbireluError(f"there are {self.walkers_at_most} walkers; let one go")
 
     def let_go(self, walker: int) -> None:
         """Gives the number of a walker back; the next `walker` may take it."""
@@ -238,12 +249,10 @@ class Session:
 
     def _lines(self, pipe: Pipe, count: int) -> List[bytes]:
         try:
-            lines = pipe.lines(count)
+            return pipe.lines(count)
         except PipeEnded as ended:
-            self._pipe = None
             last = decoded(ended.lines[-1]) if ended.lines else ""
-            raise Ended(pipe.end(), last, replies=ended.lines) from None
-        return lines
+            raise Ended(self.close(), last, replies=ended.lines) from None
 
     @staticmethod
     def _value(line: "Line[T]", reply: List[bytes]) -> T:
@@ -260,8 +269,6 @@ class Session:
         if self._pipe is not None:
             self._status, self._pipe = self._pipe.end(), None
         return self._status
-
-    _status = 0
 
     def __enter__(self: "S") -> "S":
         return self
