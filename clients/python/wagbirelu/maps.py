@@ -30,7 +30,7 @@ class Map(Session):
 
     >>> import os, tempfile
     >>> file = os.path.join(tempfile.mkdtemp(), "hr.map")
-    >>> with Map("samples/hr.tess") as map:
+    >>> with Map("samples/hr.tess", rules="samples/hr.json") as map:
     ...     ann = map.walker().go("LXLLX")
     ...     ann.put("camp")
     ...     map.save(file)
@@ -87,12 +87,17 @@ class Map(Session):
                 raise WagbireluError(f"{os.fspath(path)}: a map of version {saved[MARK]}")
             tess, rules = Tessellation.parse(saved["tess"]), encoded(saved["rules"])
             texts, walkers = dict(saved["texts"]), [(int(n), (str(at), int(spin))) for n, at, spin in saved["walkers"]]
-            with held(rules, "rules.json") as file:
-                found = cls(tess, int(saved["kind"]), file, None, program)
+            kind = int(saved["kind"])
         except (ValueError, KeyError, TypeError) as error:
             raise WagbireluError(f"{os.fspath(path)}: no map: {error!r}") from None
+        with held(rules, "rules.json") as file:
+            found = cls(tess, kind, file, None, program)
         found.texts = texts
-        found._bring_back(walkers)
+        try:
+            found._bring_back(walkers)
+        except BaseException:
+            found.close()
+            raise
         return found
 
     def _places(self) -> List[Tuple[int, Tuple[str, int]]]:

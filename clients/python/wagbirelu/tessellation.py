@@ -189,7 +189,8 @@ its tiles give it different valences: 0/0 gives 3, 1/0 gives 4, 1/1 gives 3
         for side in self._file_sides():
             for seen in (side, side._replace(mirrored=True)) if self.version == 2 else (side,):
                 corner = self.corner_at(seen)
-                if not corner.closes:
+                # As the program has it: the next tile gives the same valence, and so many steps lead back.
+                if corner.valences[1 % corner.length] != corner.valence or corner.valence % corner.length:
                     return Fault("corner", side.kind, side.side, corner.why)
         return None
 

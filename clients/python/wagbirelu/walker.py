@@ -151,7 +151,7 @@ class Walker:
 
         With `tiles` it stops walking round more tiles once so many are seen.
 
-        >>> with Session("samples/hr.tess") as session:
+        >>> with Session("samples/hr.tess", rules="samples/hr.json") as session:
         ...     view = session.walker().look(steps=2)
         ...     print(len(view), view["0.4"].way, [place.name for place in view["0"].across])
         22 XLLLLX ['-', '6', '6.4', '0.3', '0.4', '1']
