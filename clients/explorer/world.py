@@ -17,35 +17,42 @@ sys.path[:0] = [str(CLIENTS / "python"), str(CLIENTS / "shapes")]
 from files import NoShape, shapes_of  # noqa: E402  (the folders stand beside this one)
 from geometry import Move  # noqa: E402
 from picture import View, in_view  # noqa: E402
-from wagbirelu import Deep, Map, Refusal, Session, Walker, WagbireluError, lines, sides_of, way_between, way_to  # noqa: E402
+from wagbirelu import (  # noqa: E402
+    Deep, Map, Refusal, Session, WagbireluError, Walker, backwards, lines, sides_of, way_between, way_to)
 from wagbirelu.program import held  # noqa: E402
 
 __all__ = ["Map", "NoShape", "WagbireluError", "World"]
 
 #: Tiles of the disk that are smaller are not drawn, in hundredths of its radius.
 LEAST = 1.8
-#: A tile this near to the last distance that can be walked to is walked to with care.
+#: Tiles that are smaller show no text.
+TEXT_LEAST = 4.0
+#: No tile that a walker comes to is more crossings from the root.
 DEEPEST = 4000
 PLAYER, EYE, START = range(3)
+#: What the eye asks at each tile: its text, and whether it is the one to go back to.
+ASKED = (lines.get(EYE), lines.same(EYE, START))
 
 
 class Near(NamedTuple):
-    """A tile around: its name in the tree of the kind, and where it lies seen from the middle."""
+    """A tile around: its name in the tree of the kind, where it lies seen from the middle, and whether it is large
+    enough to show a text."""
 
     name: str
     kind: int
     place: Move
+    readable: bool
 
 
 class World:
     """A map with three walkers: the player, an eye that reads the texts around, and one that stands where to go back to.
 
-    >>> with Map("samples/hr.tess") as map:
+    >>> with Map("samples/hr.tess", rules="samples/hr.json") as map:
     ...     world = World(map)
     ...     _ = world.do({"do": "go", "letters": "LXLLX"})
     ...     state = world.do({"do": "put", "text": "camp"})
     ...     print(state["name"], state["level"], state["distance"], state["text"])
-    1.2 2 2 camp
+    0.4 2 2 camp
     """
 
     def __init__(self, found: Map, file: Optional[str] = None) -> None:
@@ -57,6 +64,7 @@ class World:
             found.walker()
         self.player, self.eye, self.start = (Walker(found, number) for number in (PLAYER, EYE, START))
         self._near: Dict[int, List[Near]] = {}
+        self._tours: Dict[int, Tuple[List[int], bytes]] = {}
 
     # --- what the page asks for ---
 
@@ -103,7 +111,7 @@ class World:
             keep=True)
         side = self.player.side()
         kind, residue = self.map.tessellation.flat(side)
-        texts, start = self._read_around(kind, residue, level, distance)
+        texts, start = self._read_around(kind, residue, level)
         return {
             "name": place.name, "spin": place.spin, "kind": kind, "side": residue, "level": level, "text": text,
             "distance": None if isinstance(distance, Refusal) else distance,
@@ -145,52 +153,59 @@ class World:
                 with Session(self.map.tessellation, kind, rules, program=self.map.program) as session:
                     tiles = in_view(session.ring, self.shapes, view, kind, None, least)
             tiles.sort(key=lambda tile: sides_of(tile.name))
-            self._near[kind] = [Near(tile.name, tile.kind, tile.place) for tile in tiles]
+            self._near[kind] = [
+                Near(tile.name, tile.kind, tile.place, view.width(tile.corners(self.shapes)) >= TEXT_LEAST * view.scale / 100
+                     or not self.shapes.curved)
+                for tile in tiles]
         return self._near[kind]
 
     def _view(self) -> View:
         return View.of(self.shapes, 800)
 
-    def _read_around(self, kind: int, residue: int, level: int, distance: object) -> Tuple[Dict[int, str], Optional[int]]:
+    def _read_around(self, kind: int, residue: int, level: int) -> Tuple[Dict[int, str], Optional[int]]:
         """The texts on the tiles around, by their numbers, and the number of the tile to go back to, if it is there."""
         near = self.near(kind)
         farthest = max(len(sides_of(tile.name)) for tile in near)
-        walk = self._walk_with_care if level + farthest > DEEPEST else self._walk_at_once
-        asked = [lines.get(EYE)]
-        if isinstance(distance, int) and distance <= farthest:
-            asked.append(lines.same(EYE, START))
-        texts, start = {}, None
-        for number, answers in walk(near, "R" * residue, asked):
-            if answers[0] is not None:
-                texts[number] = answers[0]
-            if len(answers) > 1 and answers[1]:
-                start = number
-        return texts, start
-
-    def _walk_at_once(self, near: List[Near], turn: str, asked: List[lines.Line]) -> Iterator[Tuple[int, List[Any]]]:
-        """The eye goes to all tiles around, asks at each, and returns, in one call."""
-        here, sent = "-", [lines.go(EYE, turn)]
-        for tile in near:
-            sent += [lines.go(EYE, way_between(here, tile.name)), *asked]
-            here = tile.name
-        sent += [lines.go(EYE, way_between(here, "-")), lines.go(EYE, turn.replace("R", "L"))]
-        answers = self.map.send(sent)
-        step = 1 + len(asked)
-        for number in range(len(near)):
-            yield number, answers[1 + number * step + 1 : 1 + (number + 1) * step]
-
-    def _walk_with_care(self, near: List[Near], turn: str, asked: List[lines.Line]) -> Iterator[Tuple[int, List[Any]]]:
-        """The same where some of the tiles may be too deep: they are left out."""
+        turn = "R" * residue
         self.eye.go(turn)
+        if level + farthest > DEEPEST:
+            found = list(self._read_with_care(near))
+        else:
+            read, data = self._tour(kind)
+            replies = self.map.ask_bytes(data, 3 * len(read) + 1)
+            found = list(zip(read, replies[1::3], replies[2::3]))
+        self.eye.go(backwards(turn))
+        get = lines.get(EYE).read
+        texts = {number: get([text]) for number, text, _ in found if text != b"none"}
+        starts = [number for number, _, same in found if same == b"yes"]
+        return texts, starts[0] if starts else None
+
+    def _tour(self, kind: int) -> Tuple[List[int], bytes]:
+        """The lines with which the eye goes to all tiles around that can show a text, asks at each, and returns."""
+        if kind not in self._tours:
+            here, read, sent = "-", [], []
+            for number, tile in enumerate(self.near(kind)):
+                if tile.readable:
+                    read.append(number)
+                    sent += [lines.go(EYE, way_between(here, tile.name)), *ASKED]
+                    here = tile.name
+            sent.append(lines.go(EYE, way_between(here, "-")))
+            self._tours[kind] = read, b"".join(line.text + b"\n" for line in sent)
+        return self._tours[kind]
+
+    def _read_with_care(self, near: List[Near]) -> Iterator[Tuple[int, bytes, bytes]]:
+        """The same where some of the tiles may be too deep: they are left out."""
         here = "-"
         for number, tile in enumerate(near):
-            try:
-                self.eye.go(way_between(here, tile.name))
-            except Deep:
-                continue
-            here = tile.name
-            yield number, self.map.send(asked)
-        self.eye.go(way_between(here, "-") + turn.replace("R", "L"))
+            if tile.readable:
+                try:
+                    self.eye.go(way_between(here, tile.name))
+                except Deep:
+                    continue
+                here = tile.name
+                text, same = self.map.ask_bytes(b"".join(line.text + b"\n" for line in ASKED), 2)
+                yield number, text, same
+        self.eye.go(way_between(here, "-"))
 
 
 def pair(z: complex) -> List[float]:

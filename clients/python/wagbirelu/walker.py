@@ -100,11 +100,11 @@ class Walker:
         0/1m Place(name='1', spin=0, kind=1)
         """
         here = self.place()
-        tess = self.session.tessellation
-        side = tess.file_side(self.session.kind, 0)
+        kinds = self.session.tessellation.expanded.kinds
+        kind, residue = self.session.kind, 0
         for turns in sides_of(here.name):
-            side = tess.cross(tess.left(side, turns))
-        return tess.left(side, here.spin)
+            kind, residue, _ = kinds[kind].partner[(residue + turns) % kinds[kind].repeat]
+        return self.session.tessellation.file_side(kind, residue + here.spin)
 
     def level(self) -> int:
         """The least number of crossings from the root."""
