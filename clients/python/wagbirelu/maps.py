@@ -36,7 +36,7 @@ class Map(Session):
     ...     map.save(file)
     >>> with Map.load(file) as map:
     ...     print(map.texts, map.walkers[0].get())
-    {'1.2': 'camp'} camp
+    {'0.4': 'camp'} camp
 
     `texts` has what is written, by the names of tiles. A map keeps walker 63 for itself.
     Where the input comes to its limit of 268,435,456 bytes the map starts the program anew

@@ -3,11 +3,12 @@
 from __future__ import annotations
 
 import os
+import selectors
 import subprocess
 import threading
 from typing import List, Optional, Sequence
 
-#: So many bytes a pipe takes without being read, on every system. More are written by a thread while replies are read.
+#: So many bytes a pipe takes without being read, on every system.
 SMALL = 4096
 #: So many bytes the program reads of its input in all.
 STREAM_LIMIT = 268_435_456
@@ -33,6 +34,10 @@ class Pipe:
         self._partial = b""
         self._writer: Optional[threading.Thread] = None
         self.sent = 0
+        # Where a pipe can be told so, a write takes what there is room for and does not wait.
+        self._never_waits = os.name == "posix"
+        if self._never_waits:
+            os.set_blocking(self._input.fileno(), False)
 
     @property
     def room(self) -> int:
@@ -40,27 +45,43 @@ class Pipe:
         return STREAM_LIMIT - self.sent
 
     def write(self, data: bytes) -> None:
-        """Sends bytes: at once where they are few, and else by a thread, so that the replies can be read meanwhile.
+        """Sends bytes: at once as many as the pipe takes, and the rest by a thread, so that the replies can be read meanwhile.
 
         The replies to all that was sent before have to be read, or be read before the next call.
         """
+        self._join_writer()
+        self.sent += len(data)
+        rest = memoryview(data)
+        if self._never_waits or len(data) <= SMALL:
+            rest = self._write_some(rest)
+        if rest:
+            self._writer = threading.Thread(target=self._write_all, args=(rest,), daemon=True)
+            self._writer.start()
+
+    def _write_some(self, rest: memoryview) -> memoryview:
+        """What is left of some bytes after one write."""
+        try:
+            return rest[os.write(self._input.fileno(), rest) :]
+        except BlockingIOError:
+            return rest
+        except (OSError, ValueError):
+            return rest[:0]  # The program has ended, and the read that follows tells how.
+
+    def _write_all(self, rest: memoryview) -> None:
+        if not self._never_waits:
+            while rest:
+                rest = self._write_some(rest[: 1 << 16])
+            return
+        with selectors.DefaultSelector() as selector:
+            selector.register(self._input, selectors.EVENT_WRITE)
+            while rest:
+                selector.select()
+                rest = self._write_some(rest)
+
+    def _join_writer(self) -> None:
         if self._writer:
             self._writer.join()
             self._writer = None
-        self.sent += len(data)
-        if len(data) <= SMALL:
-            self._write_all(data)
-        else:
-            self._writer = threading.Thread(target=self._write_all, args=(data,), daemon=True)
-            self._writer.start()
-
-    def _write_all(self, data: bytes) -> None:
-        rest = memoryview(data)
-        try:
-            while rest:
-                rest = rest[os.write(self._input.fileno(), rest[: 1 << 16]) :]
-        except (BrokenPipeError, OSError, ValueError):
-            pass  # The program has ended, and the read that follows tells how.
 
     def lines(self, count: int) -> List[bytes]:
         """The next lines of the output. Raises PipeEnded where the program ends before."""
@@ -96,7 +117,5 @@ class Pipe:
 
     def _close_input(self) -> None:
         # A writer may still wait for the output to be read, which `end` does meanwhile.
-        if self._writer:
-            self._writer.join()
-            self._writer = None
+        self._join_writer()
         self._input.close()
