@@ -19,8 +19,8 @@ PICTURES = TOP / "docs/pictures"
 SMALL = PICTURES / "gallery"
 PAGE = TOP / "docs/GALLERY.md"
 
-# Small pictures: pixels, tiles across one of the plane, the bytes that one should have at most.
-SIZE, ACROSS, BYTES = 150, 9.0, 12_000
+# Small pictures: pixels, tiles across one of the plane, the least tile in pixels, the most bytes.
+SIZE, ACROSS, LEAST, BYTES = 150, 9.0, 2.2, 14_000
 # The rings whose numbers of tiles the page shows, and those that are compared with known numbers.
 RINGS, COMPARED = 5, 10
 
@@ -28,7 +28,7 @@ RINGS, COMPARED = 5, 10
 LARGE = (
     ("hr", "samples/hr.tess", 560, 2.5),
     ("cairo", "gallery/ds44.tess", 400, 1.5),
-    ("triangle237", "samples/triangle237.tess", 480, 4.0),
+    ("triangle237", "samples/triangle237.tess", 480, 5.0),
     ("herringbone", "gallery/herringbone.tess", 400, 1.5),
 )
 
@@ -48,18 +48,24 @@ def described(text):
 
 # ---- pictures ------------------------------------------------------------------------------------
 
-def picture(tess, session, size, least, across=12.0, title=""):
-    """The picture of a tessellation as a text, as large as its pixels say."""
+def picture(tess, session, size, least, title):
+    """The picture of a tessellation as a text."""
     shapes = shapes_of(tess)
-    view = View.of(shapes, size, across=across)
+    view = View.of(shapes, size)
     tiles = in_view(session.ring, shapes, view, 0, None, least)
     return svg(tiles, shapes, view, Style(handed=tess.version == 2, title=title))
 
 
-def small_picture(tess, session, name):
-    """A picture for the page, with fewer small tiles where it would be too long."""
-    for least in (2.5, 3.2, 4.0, 5.0, 6.5, 8.0, 10.0, 13.0):
-        text = picture(tess, session, SIZE, least, ACROSS, name)
+def small_picture(tess, session, title):
+    """A picture for the page, without its smallest tiles where it would be too long."""
+    shapes = shapes_of(tess)
+    view = View.of(shapes, SIZE, across=ACROSS)
+    tiles = in_view(session.ring, shapes, view, 0, None, LEAST)
+    widths = {tile.name: view.width(tile.corners(shapes)) for tile in tiles}
+    style = Style(handed=tess.version == 2, title=title)
+    for step in range(40):
+        least = LEAST * 1.08 ** step
+        text = svg([tile for tile in tiles if widths[tile.name] >= least], shapes, view, style)
         if len(text) <= BYTES:
             break
     return text
@@ -70,7 +76,7 @@ def large_pictures(program):
     for name, file, size, least in LARGE:
         tess = Tessellation.read(TOP / file)
         with Session(TOP / file, program=program) as session:
-            yield f"{name}.svg", picture(tess, session, size, least, title=name)
+            yield f"{name}.svg", picture(tess, session, size, least, name)
 
 
 NUMBER = re.compile(r"-?\d+(?:\.\d+)?")
@@ -94,7 +100,7 @@ HEAD = """# Gallery
 {count} tessellations to begin with.
 Each lies in `gallery/` as NAME.tess, with its learnt rules as NAME.json, and runs as it stands:
 
-```console
+```text
 $ walker_cli check gallery/ds44.tess gallery/ds44.json
 accepted {cairo}
 ```

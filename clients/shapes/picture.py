@@ -19,7 +19,6 @@ COLOURS = ("#e9b44c", "#6c9bd2", "#8dbf67", "#d0706a", "#9c87c8", "#5bb0aa", "#d
 LINE = "#2b2b33"
 GROUND = "#f4f2ec"
 RIM = "#55555f"
-SHADE = "#8a8a92"
 
 
 class Tile(NamedTuple):
@@ -44,12 +43,9 @@ def child(tile: Tile, name: str, side: int, shapes: Shapes) -> Tile:
     return Tile(name, tile.level + 1, kind, home, place)
 
 
-def placed(ring: Callable[[int], Optional[Sequence[str]]], shapes: Shapes, root: int,
-           goes_on: Callable[[int, List[Tile]], bool]) -> Iterator[Tile]:
-    """The tiles ring by ring, from the names that `ring` answers (None where it refuses).
-
-    Behind each ring `goes_on` is asked, with its number and tiles, whether the next one is wanted.
-    """
+def placed(ring: Callable[[int], Optional[Sequence[str]]], shapes: Shapes,
+           root: int) -> Iterator[List[Tile]]:
+    """The tiles ring by ring, from the names that `ring` answers (None where it refuses)."""
     start = Tile("-", 0, root, 0, Move(1 + 0j, 0j, shapes.curved))
     inner: Dict[str, Tile] = {}
     level, names = 0, ring(0)
@@ -58,9 +54,7 @@ def placed(ring: Callable[[int], Optional[Sequence[str]]], shapes: Shapes, root:
         for name in names:
             above, _, side = name.rpartition(".")
             tiles[name] = child(inner[above or "-"], name, int(side), shapes) if level else start
-        yield from tiles.values()
-        if not goes_on(level, list(tiles.values())):
-            return
+        yield list(tiles.values())
         inner, level = tiles, level + 1
         names = ring(level)
 
@@ -75,10 +69,13 @@ def in_view(ring: Callable[[int], Optional[Sequence[str]]], shapes: Shapes, view
         ends = tile.corners(shapes)
         return view.shows(ends) and view.width(ends) >= least
 
-    def goes_on(level: int, tiles: List[Tile]) -> bool:
-        return level < depth if depth is not None else any(map(is_seen, tiles))
-
-    return [tile for tile in placed(ring, shapes, root, goes_on) if is_seen(tile)]
+    found: List[Tile] = []
+    for level, tiles in enumerate(placed(ring, shapes, root)):
+        seen = [tile for tile in tiles if is_seen(tile)]
+        found += seen
+        if level == depth or (depth is None and not seen):
+            break
+    return found
 
 
 # ---- the view ------------------------------------------------------------------------------------
@@ -208,7 +205,7 @@ def svg(tiles: Iterable[Tile], shapes: Shapes, view: View, style: Style) -> str:
              f'viewBox="0 0 {full} {full}">']
     if style.title:
         lines.append(f"<title>{escaped(style.title)}</title>")
-    lines.append(ground(view))
+    lines.append(ground(view, [colour for (colour, _), pieces in paths.items() for _ in pieces]))
     lines.append(f'<g stroke="{LINE}" stroke-linejoin="round">')
     for (colour, width), pieces in sorted(paths.items()):
         path = "".join(pieces)
@@ -222,13 +219,23 @@ def svg(tiles: Iterable[Tile], shapes: Shapes, view: View, style: Style) -> str:
     return "\n".join([*lines, "</svg>"]) + "\n"
 
 
-def ground(view: View) -> str:
-    """What lies behind the tiles: the paper, or the disk, dark where tiles are too small."""
+def ground(view: View, colours: Sequence[str]) -> str:
+    """What lies behind the tiles: the paper, or the disk, as tiles look that are too small."""
     full = FINE * view.size
     if not view.curved:
         return f'<rect width="{full}" height="{full}" fill="{GROUND}"/>'
-    radius = round(FINE * view.scale)
-    return f'<circle cx="{full // 2}" cy="{full // 2}" r="{radius}" fill="{SHADE}"/>'
+    colour, radius = mixed(mean(colours), LINE, 0.35), round(FINE * view.scale)
+    return f'<circle cx="{full // 2}" cy="{full // 2}" r="{radius}" fill="{colour}"/>'
+
+
+def mean(colours: Sequence[str]) -> str:
+    """The mean of colours.
+
+    >>> mean(["#102030", "#304050"])
+    '#203040'
+    """
+    parts = [[int(colour[i:i + 2], 16) for colour in colours] for i in (1, 3, 5)]
+    return "#" + "".join(f"{round(sum(part) / len(part)):02x}" for part in parts)
 
 
 def label(tile: Tile, ends: Sequence[complex], view: View) -> List[str]:

@@ -26,7 +26,7 @@ def ring_of(rings):
 
 def tiles_of(found, rings):
     """All the tiles of these rings."""
-    return list(placed(ring_of(rings), found, 0, lambda level, tiles: True))
+    return [tile for tiles in placed(ring_of(rings), found, 0) for tile in tiles]
 
 
 def moved(path):
