@@ -11,17 +11,17 @@ What is read, in a file of lines with remarks behind `#`:
     conway("..")                    which edges meet, see below
     c(T, E, T2, E2, M)              edge E of tile T meets edge E2 of tile T2; mirrored where M is 1
 
-In a list of a tile, `*N` as its last word is `repeat(N)`. A number X is reckoned from numbers, names,
-pi, deg, + - * / ^ and functions such as sin, sqrt, acosh, and edge(p, q), the length of the edges
-of the regular tessellation {p,q}.
+In a list of a tile, `*N` as its last word is `repeat(N)`. A number X is reckoned from numbers,
+names, pi, deg, + - * / ^ and functions such as sin, sqrt, acosh, and edge(p, q), the length of the
+edges of the regular tessellation {p,q}.
 
 The joins of `conway` come in either of two forms.
-With brackets, `(0 1)` says that edges 0 and 1 of tile 0 meet, and `(2)` that edge 2 meets edges like
-itself; `[0 1]` and `[2]` say the same where the tile across is mirrored, and so does `'` behind a
-number; `0@1` is edge 0 of tile 1.
+With brackets, `(0 1)` says that edges 0 and 1 of tile 0 meet, and `(2)` that edge 2 meets edges
+like itself; `[0 1]` and `[2]` say the same where the tile across is mirrored, and so does `'`
+behind a number; `0@1` is edge 0 of tile 1.
 Without brackets there is a word for each edge below the repeats, tile by tile: two edges with one
-number meet, an edge whose number no other has meets edges like itself, `'` behind a number says that
-the tile across is mirrored, and `W*N` is the word W for N edges.
+number meet, an edge whose number no other has meets edges like itself, `'` behind a number says
+that the tile across is mirrored, and `W*N` is the word W for N edges.
 
 >>> print(tess_text('e2. angleunit(deg) unittile(90) repeat(4) conway("(0)")'), end="")
 tess 1
@@ -290,7 +290,7 @@ def tessellation(said: Description) -> Tessellation:
     if not said.tiles:
         raise NotRead("there is no tile")
     if said.plane == "closed":
-        raise NotRead("the file speaks of the sphere, where tiles close up: no rules are made for it")
+        raise NotRead("the file speaks of the sphere, where tiles close up: it has no rules")
     partner = partners(said)
     kinds = []
     for number_, tile_ in enumerate(said.tiles):
@@ -351,7 +351,7 @@ def with_valences(said: Description, tess: Tessellation) -> Tessellation:
 
 
 def angle_at(said: Description, side: Side) -> float:
-    """The angle at the left end of a side, which in a mirrored tile is that behind the edge before."""
+    """The angle at the left end of a side; in a mirrored tile it is that behind the edge before."""
     angles = said.tiles[side.kind].angles
     return angles[(side.side - side.mirrored) % len(angles)]
 

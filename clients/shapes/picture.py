@@ -29,9 +29,9 @@ class Tile(NamedTuple):
     home: int
     place: Move
 
-    def corners(self, shapes: Shapes) -> List[complex]:
-        """Its corners in their places."""
-        return [self.place.place(z) for z in shapes.corners[self.kind]]
+    def outline(self, shapes: Shapes) -> List[complex]:
+        """Its corners in their places, and where edges are bent their middles."""
+        return [self.place.place(z) for z in shapes.outline(self.kind)]
 
 
 def child(tile: Tile, name: str, side: int, shapes: Shapes) -> Tile:
@@ -66,7 +66,7 @@ def in_view(ring: Callable[[int], Optional[Sequence[str]]], shapes: Shapes, view
     They are those of the rings up to `depth`, or of all rings until one has no such tile.
     """
     def is_seen(tile: Tile) -> bool:
-        ends = tile.corners(shapes)
+        ends = tile.outline(shapes)
         return view.shows(ends) and view.width(ends) >= least
 
     found: List[Tile] = []
@@ -93,7 +93,7 @@ class View:
         `across` tiles from one edge of the picture to the other."""
         if shapes.curved:
             return View(size, size / 2 - 2, True)
-        far = max((abs(z) for tile in tiles for z in tile.corners(shapes)), default=0.0)
+        far = max((abs(z) for tile in tiles for z in tile.outline(shapes)), default=0.0)
         if not far:
             areas = [abs(area(ends)) for ends in shapes.corners.values()]
             far = across / 2 * sqrt(sum(areas) / len(areas))
@@ -184,9 +184,14 @@ def line_width(pixels: float) -> float:
 
 @dataclass(frozen=True)
 class Style:
-    """What a picture shows beside the tiles: their names, and a title."""
+    """How a picture is drawn.
+
+    `labels`: with names; `handed`: every other kind is a mirrored one; `rim`: what lies further out
+    in the disk is as dark as tiles that are too small.
+    """
     labels: bool = False
     handed: bool = False
+    rim: bool = True
     title: str = ""
 
 
@@ -195,7 +200,7 @@ def svg(tiles: Iterable[Tile], shapes: Shapes, view: View, style: Style) -> str:
     paths: Dict[Tuple[str, float], List[str]] = {}
     texts = []
     for tile in tiles:
-        ends = tile.corners(shapes)
+        ends = tile.outline(shapes)
         colour = colour_of(tile, style.handed, len(shapes.corners))
         paths.setdefault((colour, line_width(view.width(ends))), []).append(outline(ends, view))
         if style.labels:
@@ -205,7 +210,8 @@ def svg(tiles: Iterable[Tile], shapes: Shapes, view: View, style: Style) -> str:
              f'viewBox="0 0 {full} {full}">']
     if style.title:
         lines.append(f"<title>{escaped(style.title)}</title>")
-    lines.append(ground(view, [colour for (colour, _), pieces in paths.items() for _ in pieces]))
+    colours = [colour for (colour, _), pieces in paths.items() for _ in pieces]
+    lines.append(ground(view, colours if style.rim else []))
     lines.append(f'<g stroke="{LINE}" stroke-linejoin="round">')
     for (colour, width), pieces in sorted(paths.items()):
         path = "".join(pieces)
@@ -213,6 +219,9 @@ def svg(tiles: Iterable[Tile], shapes: Shapes, view: View, style: Style) -> str:
     lines.append("</g>")
     if texts:
         lines += ['<g font-family="sans-serif" text-anchor="middle" fill="#111">', *texts, "</g>"]
+    if shapes.middles:
+        lines.append(f'<text x="{FINE * 4}" y="{full - FINE * 6}" font-family="sans-serif" '
+                     f'font-size="{FINE * 12}" fill="#111">not to scale</text>')
     if view.curved:
         lines.append(f'<circle cx="{full // 2}" cy="{full // 2}" r="{round(FINE * view.scale)}" '
                      f'fill="none" stroke="{RIM}" stroke-width="{FINE}"/>')
@@ -220,11 +229,12 @@ def svg(tiles: Iterable[Tile], shapes: Shapes, view: View, style: Style) -> str:
 
 
 def ground(view: View, colours: Sequence[str]) -> str:
-    """What lies behind the tiles: the paper, or the disk, as tiles look that are too small."""
+    """What lies behind the tiles: paper, in a disk where there are colours as small tiles look."""
     full = FINE * view.size
     if not view.curved:
         return f'<rect width="{full}" height="{full}" fill="{GROUND}"/>'
-    colour, radius = mixed(mean(colours), LINE, 0.35), round(FINE * view.scale)
+    colour = mixed(mean(colours), LINE, 0.35) if colours else GROUND
+    radius = round(FINE * view.scale)
     return f'<circle cx="{full // 2}" cy="{full // 2}" r="{radius}" fill="{colour}"/>'
 
 

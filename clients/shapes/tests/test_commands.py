@@ -79,6 +79,12 @@ class WithoutTheProgram(Case):
         self.assertEqual((status, out), (1, ""))
         self.assertIn("the tiles close up", err)
 
+    def test_draw_takes_no_odd_numbers(self):
+        for words in (("--depth", -1), ("--size", 3), ("--root", "x")):
+            status, out, err = run("draw", TOP / "samples/hr.tess", *words, self.folder / "out.svg")
+            self.assertEqual((status, out), (2, ""))
+            self.assertIn("is no whole number", err)
+
     def test_draw_says_where_there_is_no_such_kind(self):
         status, out, err = run("draw", TOP / "samples/hr.tess", "--root", 2, self.folder / "out.svg")
         self.assertEqual((status, out), (1, ""))
@@ -103,6 +109,18 @@ class WithTheProgram(Case):
                 tiles = sum(session.count(distance) for distance in range(4))
             said, drawn, _ = self.drawn(path, "--depth", 3, "--least", 0)
             self.assertEqual(drawn, tiles, said)
+
+    def test_a_picture_may_be_empty(self):
+        _, tiles, _ = self.drawn(TOP / "samples/hr.tess", "--least", 1000)
+        self.assertEqual(tiles, 0)
+
+    def test_bent_edges_are_said_to_be(self):
+        path = self.file("joined.tess", "tess 1\nkind 0 3 3\nkind 1 7 1\nkind 2 3 3\njoin 0 0 2 2\njoin 0 1 0 1\n"
+                         "join 0 2 2 1\njoin 1 0 2 0\ncorner 0 0 3\ncorner 0 1 3\ncorner 0 2 12\ncorner 1 0 12\n"
+                         "corner 2 0 12\ncorner 2 1 3\ncorner 2 2 12\n")
+        said, _, text = self.drawn(path, "--depth", 2)
+        self.assertIn("not to scale", said)
+        self.assertIn(">not to scale</text>", text)
 
     def test_names_are_those_of_the_program(self):
         path = TOP / "samples/hr.tess"

@@ -113,11 +113,24 @@ class Closing(unittest.TestCase):
 class OtherWays(unittest.TestCase):
     TWICE = [Kind(3, 3, ((1, 0), (0, 1), (1, 2)), (3, 3, 6)),
              Kind(6, 3, ((0, 0), (1, 1), (0, 2)), (6, 6, 3))]
+    JOINED = [Kind(3, 3, ((2, 2), (0, 1), (2, 1)), (3, 3, 12)), Kind(7, 1, ((2, 0),), (12,)),
+              Kind(3, 3, ((1, 0), (0, 2), (0, 0)), (12, 3, 12))]
 
     def test_tiles_that_share_two_edges_have_touching_circles(self):
         found = shapes(self.TWICE)
         self.assertEqual(found.how, "touching circles")
         self.assertLess(geometry.closing_error(found, [0, 1]), 1e-9)
+
+    def test_corners_that_two_edges_join_have_bent_edges(self):
+        found = shapes(self.JOINED)
+        self.assertEqual(found.how, "bent edges, not to scale")
+        self.assertLess(geometry.closing_error(found, [0, 1, 2]), 1e-9)
+        for kind in range(3):
+            self.assertEqual(len(found.outline(kind)), 2 * found.kinds[kind].sides)
+            for side in range(found.kinds[kind].sides):     # the middles are shared too
+                other, back = found.crossed(kind, side)
+                there = found.across[kind][side].place(found.middles[other][back])
+                self.assertLess(abs(there - found.middles[kind][side]), 1e-9)
 
     def test_tiles_that_close_up(self):
         with self.assertRaisesRegex(NoShape, "close up"):
