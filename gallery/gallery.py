@@ -61,7 +61,7 @@ def small_picture(tess, session, title):
     shapes = shapes_of(tess)
     view = View.of(shapes, SIZE, across=ACROSS)
     tiles = in_view(session.ring, shapes, view, 0, None, LEAST)
-    widths = {tile.name: view.width(tile.outline(shapes)) for tile in tiles}
+    widths = {tile.name: view.width(tile.corners(shapes)) for tile in tiles}
     style = Style(handed=tess.version == 2, title=title)
     for step in range(40):
         least = LEAST * 1.08 ** step

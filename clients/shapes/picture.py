@@ -29,7 +29,7 @@ class Tile(NamedTuple):
     home: int
     place: Move
 
-    def outline(self, shapes: Shapes) -> List[complex]:
+    def corners(self, shapes: Shapes) -> List[complex]:
         """Its corners in their places, and where edges are bent their middles."""
         return [self.place.place(z) for z in shapes.outline(self.kind)]
 
@@ -66,7 +66,7 @@ def in_view(ring: Callable[[int], Optional[Sequence[str]]], shapes: Shapes, view
     They are those of the rings up to `depth`, or of all rings until one has no such tile.
     """
     def is_seen(tile: Tile) -> bool:
-        ends = tile.outline(shapes)
+        ends = tile.corners(shapes)
         return view.shows(ends) and view.width(ends) >= least
 
     found: List[Tile] = []
@@ -93,7 +93,7 @@ class View:
         `across` tiles from one edge of the picture to the other."""
         if shapes.curved:
             return View(size, size / 2 - 2, True)
-        far = max((abs(z) for tile in tiles for z in tile.outline(shapes)), default=0.0)
+        far = max((abs(z) for tile in tiles for z in tile.corners(shapes)), default=0.0)
         if not far:
             areas = [abs(area(ends)) for ends in shapes.corners.values()]
             far = across / 2 * sqrt(sum(areas) / len(areas))
@@ -200,7 +200,7 @@ def svg(tiles: Iterable[Tile], shapes: Shapes, view: View, style: Style) -> str:
     paths: Dict[Tuple[str, float], List[str]] = {}
     texts = []
     for tile in tiles:
-        ends = tile.outline(shapes)
+        ends = tile.corners(shapes)
         colour = colour_of(tile, style.handed, len(shapes.corners))
         paths.setdefault((colour, line_width(view.width(ends))), []).append(outline(ends, view))
         if style.labels:

@@ -60,8 +60,8 @@ class Places(unittest.TestCase):
             if name == "-":
                 continue
             above = tiles[name.rpartition(".")[0] or "-"]
-            shared = [z for z in tile.outline(found)
-                      if min(abs(z - w) for w in above.outline(found)) < 1e-9]
+            shared = [z for z in tile.corners(found)
+                      if min(abs(z - w) for w in above.corners(found)) < 1e-9]
             self.assertEqual(len(shared), 2, name)
 
     def test_no_two_tiles_in_one_place(self):
@@ -128,10 +128,10 @@ class Pictures(unittest.TestCase):
     def test_tiles_of_the_plane_fill_it_once(self):
         found = shapes(recipe("regular", 4, 4))
         tiles = tiles_of(found, SQUARES)
-        self.assertAlmostEqual(sum(area(tile.outline(found)) for tile in tiles), 13 * 4.0, 9)
+        self.assertAlmostEqual(sum(area(tile.corners(found)) for tile in tiles), 13 * 4.0, 9)
         view = View.of(found, 200, tiles)
         for tile in tiles:
-            for x, y in map(view.spot, tile.outline(found)):
+            for x, y in map(view.spot, tile.corners(found)):
                 self.assertTrue(0 <= x <= FINE * 200 and 0 <= y <= FINE * 200)
 
     def test_all_of_the_disk_lies_in_the_picture(self):
