@@ -100,7 +100,7 @@ HEAD = """# Gallery
 {count} tessellations to begin with.
 Each lies in `gallery/` as NAME.tess, with its learnt rules as NAME.json, and runs as it stands:
 
-```text
+```console
 $ walker_cli check gallery/ds44.tess gallery/ds44.json
 accepted {cairo}
 ```

@@ -1,5 +1,4 @@
 """The commands draw, recipe and from_hyperrogue, as they are called."""
-import os
 import re
 import subprocess
 import sys
@@ -29,8 +28,9 @@ def run(name, *words):
 
 class Case(unittest.TestCase):
     def setUp(self):
-        self.folder = Path(tempfile.mkdtemp())
-        self.addCleanup(lambda: subprocess.run(["rm", "-r", str(self.folder)]))
+        folder = tempfile.TemporaryDirectory()
+        self.addCleanup(folder.cleanup)
+        self.folder = Path(folder.name)
 
     def file(self, name, text):
         path = self.folder / name
@@ -154,6 +154,4 @@ class WithTheProgram(Case):
 
 
 if __name__ == "__main__":
-    if len(sys.argv) > 1 and os.path.isfile(sys.argv[1]):
-        PROGRAM = sys.argv.pop(1)
     unittest.main()

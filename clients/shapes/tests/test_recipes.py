@@ -1,4 +1,5 @@
 """Recipes: each is a tessellation with the corners that it says."""
+import re
 import sys
 import unittest
 from pathlib import Path
@@ -66,6 +67,35 @@ class Recipes(unittest.TestCase):
     def test_descriptions(self):
         self.assertEqual(description("dregular", 5, 4), "{4,5}: tiles of 4 sides, 5 round each corner")
         self.assertEqual(description("ds", 4, 4), "ds{4,4}: the dual of snub {4,4}")
+
+
+class Table(unittest.TestCase):
+    """The tables of docs/TILINGS.md, with numbers put in for p and q."""
+    PAGE = HERE.parent.parent.parent / "docs/TILINGS.md"
+    P, Q = 5, 7
+
+    def numbers(self, text):
+        """A text with the numbers of its words such as p and 2q."""
+        text = re.sub(r"(\d?)p\b", lambda m: str(int(m[1] or 1) * self.P), text)
+        return re.sub(r"(\d?)q\b", lambda m: str(int(m[1] or 1) * self.Q), text)
+
+    def test_the_page_tells_what_recipes_are(self):
+        rows = [line.strip("| \n").split(" | ") for line in self.PAGE.read_text().splitlines()
+                if re.match(r"\| `d?[a-z]+` \|", line)]
+        if not rows:
+            self.skipTest("docs/TILINGS.md has no table of recipes")
+        self.assertEqual(len(rows), 11)
+        for row in rows:
+            name = row[0].strip("`")
+            with self.subTest(name=name):
+                lines = text_of(recipe(name, self.P, self.Q)).splitlines()[1:]
+                told = re.findall(r"`(.*?)`", self.numbers(" ".join(row[-3:-1])))
+                corners = [line.split()[-1] for line in lines if line.startswith("corner")]
+                self.assertEqual(told, [line for line in lines if not line.startswith("corner")])
+                valences = re.findall(r"\d+", self.numbers(row[-1]))
+                if len(valences) == 1:      # one number for all corners
+                    valences *= len(corners)
+                self.assertEqual(valences, corners)
 
 
 if __name__ == "__main__":
