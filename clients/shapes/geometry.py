@@ -239,7 +239,7 @@ def given_corners(kinds: Sequence[Kind], among: Sequence[int],
 
 
 def centred(ends: List[complex], curved: bool) -> List[complex]:
-    """The polygon moved so that its centre is the origin and the middle of side 0 lies ahead."""
+    """The polygon moved so that its centre is the origin and side 0 lies ahead."""
     if curved:      # the mean of the points on the hyperboloid, seen in the disk again
         weights = [1 / (1 - abs(z) ** 2) for z in ends]
         mean = sum(w * z for w, z in zip(weights, ends)) / (sum(weights) - len(ends) / 2)
@@ -248,5 +248,11 @@ def centred(ends: List[complex], curved: bool) -> List[complex]:
         mean = sum(ends) / len(ends)
     back = shift(mean, curved).back()
     ends = [back.place(z) for z in ends]
-    turn = Move.turn(-cmath.phase((ends[-1] + ends[0]) / 2), curved)
+    # The way ahead meets side 0 at a right angle.
+    right, left = ends[-1], ends[0]
+    if curved:
+        ahead = -1j * (left * (1 + abs(right) ** 2) - right * (1 + abs(left) ** 2))
+    else:
+        ahead = -1j * (left - right)
+    turn = Move.turn(-cmath.phase(ahead), curved)
     return [turn.place(z) for z in ends]

@@ -143,6 +143,15 @@ class OtherWays(unittest.TestCase):
         self.assertEqual(degrees_of(found), [90, 180, 90, 90, 180, 90])
         self.assertEqual(shapes(plain_kinds(tess)).how, "equal edges")
 
+    def test_side_0_lies_ahead(self):
+        for path in (HERE / "tes").glob("*.tess"):
+            found = shapes_of(Tessellation.read(path))
+            for kind, ends in found.corners.items():
+                # Mirrored in the way ahead the line through side 0 is itself: its ends stay on it.
+                line = geometry.along(ends[-1], ends[0], found.curved).back()
+                for z in (ends[-1], ends[0]):
+                    self.assertAlmostEqual(line.place(z.conjugate()).imag, 0, 9, f"{path.name} {kind}")
+
     def test_shape_lines_that_do_not_close(self):
         text = (TOP / "gallery/bricks.tess").read_text()
         for was, now, says in (("# shape 0 0 1 90", "# shape 0 0 1 80", "do not close"),
