@@ -20,7 +20,7 @@ SMALL = PICTURES / "gallery"
 PAGE = TOP / "docs/GALLERY.md"
 
 # Small pictures: pixels, tiles across one of the plane, the least tile in pixels, the most bytes.
-SIZE, ACROSS, LEAST, BYTES = 150, 9.0, 2.2, 14_000
+SIZE, ACROSS, LEAST, BYTES = 150, 9.0, 1.2, 14_500
 # The rings whose numbers of tiles the page shows, and those that are compared with known numbers.
 RINGS, COMPARED = 5, 10
 
@@ -57,18 +57,22 @@ def picture(tess, session, size, least, title):
 
 
 def small_picture(tess, session, title):
-    """A picture for the page, without its smallest tiles where it would be too long."""
+    """A picture for the page: the tiles nearest to the middle, as many as its bytes allow."""
     shapes = shapes_of(tess)
     view = View.of(shapes, SIZE, across=ACROSS)
     tiles = in_view(session.ring, shapes, view, 0, None, LEAST)
-    widths = {tile.name: view.width(tile.corners(shapes)) for tile in tiles}
+    away = {tile.name: round(abs(tile.place.place(0j)), 4) for tile in tiles}
     style = Style(handed=tess.version == 2, title=title)
-    for step in range(40):
-        least = LEAST * 1.08 ** step
-        text = svg([tile for tile in tiles if widths[tile.name] >= least], shapes, view, style)
-        if len(text) <= BYTES:
-            break
-    return text
+
+    def within(radius):
+        return svg([tile for tile in tiles if away[tile.name] <= radius], shapes, view, style)
+
+    radii = sorted(set(away.values()))
+    low, high = 0, len(radii)       # what lies within radii[low] fits, and within radii[high] does not
+    while high - low > 1:
+        middle = (low + high) // 2
+        low, high = (middle, high) if len(within(radii[middle])) <= BYTES else (low, middle)
+    return within(radii[low])
 
 
 def large_pictures(program):
