@@ -84,13 +84,23 @@ def large_pictures(program):
 
 
 NUMBER = re.compile(r"-?\d+(?:\.\d+)?")
+BEND = re.compile(r" 0 0 ([01])(?=[ -])")
 
 
 def looks_like(one, other, apart=2.0):
     """Whether two pictures are the same but for numbers that are at most so far apart.
 
     Pictures count in tenths of a pixel, so what another machine rounds otherwise is not seen.
+    To which side an arc bends has to be the same.
+
+    >>> looks_like("M5 5a9 9 0 0 1 7-7z", "M5 6a8 8 0 0 1 7-7z")
+    True
+    >>> looks_like("M5 5a9 9 0 0 1 7-7z", "M5 5a9 9 0 0 0 7-7z")
+    False
+    >>> looks_like("M5 5l9 9z", "M5 5l9 19z") or looks_like("M5 5l9 9z", "M5 5l9 9 1 1z")
+    False
     """
+    one, other = (BEND.sub(lambda bend: " 0 0 " + "rl"[int(bend[1])], text) for text in (one, other))
     if NUMBER.sub("0", one) != NUMBER.sub("0", other):
         return False
     pairs = zip(NUMBER.findall(one), NUMBER.findall(other))

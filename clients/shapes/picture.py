@@ -154,7 +154,20 @@ def outline(ends: Sequence[complex], view: View) -> str:
     x, y = view.spot(ends[-1])
     pieces = [piece(a, b, view) for a, b in zip([ends[-1], *ends[:-2]], ends[:-1])]
     last = piece(ends[-2], ends[-1], view)
-    return f"M{x} {y}" + "".join(pieces) + (last if last[0] == "a" else "") + "z"
+    return f"M{x} {y}" + joined(pieces + [last] * (last[0] == "a")) + "z"
+
+
+def joined(pieces: Sequence[str]) -> str:
+    """The pieces of a path, without letters that repeat the one before and spaces before signs.
+
+    >>> joined(["l10 -20", "l-3 4", "a5 5 0 0 1 7 8"])
+    'l10-20-3 4a5 5 0 0 1 7 8'
+    """
+    words, letter = "", ""
+    for one in pieces:
+        words += " " + one[1:] if one[0] == letter else one
+        letter = one[0]
+    return words.replace(" -", "-")
 
 
 # ---- the picture ---------------------------------------------------------------------------------
