@@ -26,9 +26,9 @@ RINGS, COMPARED = 5, 10
 
 # The large pictures of the pages: name, file, pixels, and the least tile that is drawn.
 LARGE = (
-    ("hr", "samples/hr.tess", 560, 2.5),
+    ("hr", "samples/hr.tess", 560, 3.0),
     ("cairo", "gallery/ds44.tess", 400, 1.5),
-    ("triangle237", "samples/triangle237.tess", 480, 5.0),
+    ("triangle237", "samples/triangle237.tess", 480, 6.0),
     ("herringbone", "gallery/herringbone.tess", 400, 1.5),
 )
 
@@ -68,7 +68,7 @@ def small_picture(tess, session, title):
         return svg([tile for tile in tiles if away[tile.name] <= radius], shapes, view, style)
 
     radii = sorted(set(away.values()))
-    low, high = 0, len(radii)       # what lies within radii[low] fits, and within radii[high] does not
+    low, high = 0, len(radii)   # what lies within radii[low] fits, and within radii[high] does not
     while high - low > 1:
         middle = (low + high) // 2
         low, high = (middle, high) if len(within(radii[middle])) <= BYTES else (low, middle)
@@ -100,7 +100,10 @@ def looks_like(one, other, apart=2.0):
     >>> looks_like("M5 5l9 9z", "M5 5l9 19z") or looks_like("M5 5l9 9z", "M5 5l9 9 1 1z")
     False
     """
-    one, other = (BEND.sub(lambda bend: " 0 0 " + "rl"[int(bend[1])], text) for text in (one, other))
+    def worded(text):
+        return BEND.sub(lambda bend: " 0 0 " + "rl"[int(bend[1])], text)
+
+    one, other = worded(one), worded(other)
     if NUMBER.sub("0", one) != NUMBER.sub("0", other):
         return False
     pairs = zip(NUMBER.findall(one), NUMBER.findall(other))

@@ -106,8 +106,9 @@ class View:
                 round(FINE * (middle - self.scale * z.imag)))
 
     def width(self, ends: Sequence[complex]) -> float:
-        """How large a tile is, in pixels: the greatest distance of two of its corners."""
-        return self.scale * max(abs(a - b) for a in ends for b in ends)
+        """How large a tile is, in pixels: twice the greatest distance of a corner from their mean."""
+        centre = sum(ends) / len(ends)
+        return 2 * self.scale * max(abs(z - centre) for z in ends)
 
     def shows(self, ends: Sequence[complex]) -> bool:
         """Whether some of the tile may lie in the picture."""
