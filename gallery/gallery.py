@@ -19,16 +19,16 @@ PICTURES = TOP / "docs/pictures"
 SMALL = PICTURES / "gallery"
 PAGE = TOP / "docs/GALLERY.md"
 
-# Small pictures: pixels, tiles across one of the plane, the bytes that one should have at most.
-SIZE, ACROSS, BYTES = 150, 9.0, 12_000
+# Small pictures: pixels, tiles across one of the plane, the least tile in pixels, the most bytes.
+SIZE, ACROSS, LEAST, BYTES = 150, 9.0, 1.2, 14_500
 # The rings whose numbers of tiles the page shows, and those that are compared with known numbers.
 RINGS, COMPARED = 5, 10
 
 # The large pictures of the pages: name, file, pixels, and the least tile that is drawn.
 LARGE = (
-    ("hr", "samples/hr.tess", 560, 2.5),
+    ("hr", "samples/hr.tess", 560, 3.0),
     ("cairo", "gallery/ds44.tess", 400, 1.5),
-    ("triangle237", "samples/triangle237.tess", 480, 4.0),
+    ("triangle237", "samples/triangle237.tess", 480, 6.0),
     ("herringbone", "gallery/herringbone.tess", 400, 1.5),
 )
 
@@ -48,21 +48,31 @@ def described(text):
 
 # ---- pictures ------------------------------------------------------------------------------------
 
-def picture(tess, session, size, least, across=12.0, title=""):
-    """The picture of a tessellation as a text, as large as its pixels say."""
+def picture(tess, session, size, least, title):
+    """The picture of a tessellation as a text."""
     shapes = shapes_of(tess)
-    view = View.of(shapes, size, across=across)
+    view = View.of(shapes, size)
     tiles = in_view(session.ring, shapes, view, 0, None, least)
     return svg(tiles, shapes, view, Style(handed=tess.version == 2, title=title))
 
 
-def small_picture(tess, session, name):
-    """A picture for the page, with fewer small tiles where it would be too long."""
-    for least in (2.5, 3.2, 4.0, 5.0, 6.5, 8.0, 10.0, 13.0):
-        text = picture(tess, session, SIZE, least, ACROSS, name)
-        if len(text) <= BYTES:
-            break
-    return text
+def small_picture(tess, session, title):
+    """A picture for the page: the tiles nearest to the middle, as many as its bytes allow."""
+    shapes = shapes_of(tess)
+    view = View.of(shapes, SIZE, across=ACROSS)
+    tiles = in_view(session.ring, shapes, view, 0, None, LEAST)
+    away = {tile.name: round(abs(tile.place.place(0j)), 4) for tile in tiles}
+    style = Style(handed=tess.version == 2, title=title)
+
+    def within(radius):
+        return svg([tile for tile in tiles if away[tile.name] <= radius], shapes, view, style)
+
+    radii = sorted(set(away.values()))
+    low, high = 0, len(radii)   # what lies within radii[low] fits, and within radii[high] does not
+    while high - low > 1:
+        middle = (low + high) // 2
+        low, high = (middle, high) if len(within(radii[middle])) <= BYTES else (low, middle)
+    return within(radii[low])
 
 
 def large_pictures(program):
@@ -70,17 +80,30 @@ def large_pictures(program):
     for name, file, size, least in LARGE:
         tess = Tessellation.read(TOP / file)
         with Session(TOP / file, program=program) as session:
-            yield f"{name}.svg", picture(tess, session, size, least, title=name)
+            yield f"{name}.svg", picture(tess, session, size, least, name)
 
 
 NUMBER = re.compile(r"-?\d+(?:\.\d+)?")
+BEND = re.compile(r" 0 0 ([01])(?=[ -])")
 
 
 def looks_like(one, other, apart=2.0):
     """Whether two pictures are the same but for numbers that are at most so far apart.
 
-    Pictures count in tenths of a pixel, so what an own rounding of another machine moves is not seen.
+    Pictures count in tenths of a pixel, so what another machine rounds otherwise is not seen.
+    To which side an arc bends has to be the same.
+
+    >>> looks_like("M5 5a9 9 0 0 1 7-7z", "M5 6a8 8 0 0 1 7-7z")
+    True
+    >>> looks_like("M5 5a9 9 0 0 1 7-7z", "M5 5a9 9 0 0 0 7-7z")
+    False
+    >>> looks_like("M5 5l9 9z", "M5 5l9 19z") or looks_like("M5 5l9 9z", "M5 5l9 9 1 1z")
+    False
     """
+    def worded(text):
+        return BEND.sub(lambda bend: " 0 0 " + "rl"[int(bend[1])], text)
+
+    one, other = worded(one), worded(other)
     if NUMBER.sub("0", one) != NUMBER.sub("0", other):
         return False
     pairs = zip(NUMBER.findall(one), NUMBER.findall(other))
@@ -100,9 +123,10 @@ accepted {cairo}
 ```
 
 `clients/draw gallery/ds44.tess cairo.svg` draws one larger.
-The pictures are drawn by the program's replies; lengths and angles are found from the files ([TILINGS.md](TILINGS.md)).
-*Corners* are the sorts of corner: the numbers of sides of the tiles round one, `3^4` for four triangles in a row.
-A straight corner counts too, so a brick has six sides.
+The pictures are drawn by the program's replies; lengths and angles are found from the files
+([TILINGS.md](TILINGS.md)).
+*Corners* are the sorts of corner: the numbers of sides of the tiles round one,
+`3^4` for four triangles in a row. A straight corner counts too, so a brick has six sides.
 *Kinds* are those of the file, *states* and *types* the states and corner types of its rules.
 *Rings* are the numbers of tiles 1 to 5 crossings away from a tile of kind 0.
 Mirrored tiles, of files that begin with `tess 2`, are paler;
@@ -112,9 +136,17 @@ This page, the rules and the pictures are made by `gallery/make`.
 `gallery/check` has the program check all rules, makes page and pictures anew and compares them,
 and compares the numbers of tiles with what is known of them, see the end of this page.
 """
-ROW = ("| ![{name}](pictures/gallery/{name}.svg) | **{name}** {remark} | {figures} | {kinds} | {states} "
-       "| {types} | {rings} |")
+ROW = ("| ![{name}](pictures/gallery/{name}.svg) | **{name}** {remark} | {figures} | {kinds} "
+       "| {states} | {types} | {rings} |")
 TABLE = "| | Name | Corners | Kinds | States | Types | Rings |\n|---|---|---|---|---|---|---|"
+
+
+TAIL = f"""## What the numbers are compared with
+
+The numbers of tiles at distances 1 to {COMPARED} are those that are known of these tessellations.
+A tile and its neighbours are a vertex and its neighbours in the dual,
+so what is known as a coordination sequence of a net is said here of the dual tessellation.
+"""
 
 
 def figure(text):
@@ -144,14 +176,11 @@ def row(name, tess, session, accepted):
 def page(rows, accepted):
     """The page over its rows: a list of planes and rows, and the answers of `check` by name."""
     parts = [HEAD.format(count=len(rows), cairo=accepted["ds44"].split(" ", 1)[1])]
-    for plane, title in (("euclidean", "The Euclidean plane"), ("hyperbolic", "The hyperbolic plane")):
-        parts.append("\n".join([f"## {title}\n", TABLE, *(line for where, line in rows if where == plane)]) + "\n")
-    parts.append("## What the numbers are compared with\n\n"
-                 f"The numbers of tiles at distances 1 to {COMPARED} are those that are known of these tessellations.\n"
-                 "A tile and its neighbours are a vertex and its neighbours in the dual,\n"
-                 "so what is known as a coordination sequence of a net is said here of the dual tessellation.\n")
-    parts.append("\n".join(["| Name | Known from |", "|---|---|",
-                            *(f"| {name} | {source} |" for name, (source, _) in sorted(known().items()))]) + "\n")
+    for which in ("Euclidean", "hyperbolic"):
+        lines = [line for where, line in rows if where == which.lower()]
+        parts.append("\n".join([f"## The {which} plane\n", TABLE, *lines, ""]))
+    lines = [f"| {name} | {source} |" for name, (source, _) in sorted(known().items())]
+    parts.append("\n".join([TAIL, "| Name | Known from |", "|---|---|", *lines, ""]))
     return "\n".join(parts)
 
 
@@ -162,8 +191,8 @@ def plane(tess):
 
 # ---- what is known -------------------------------------------------------------------------------
 
-# Coordination sequences of the uniform nets of the plane, from the Encyclopedia of Integer Sequences,
-# from distance 1. Each stands at the dual of its net.
+# Coordination sequences of the uniform nets of the plane, from distance 1, as the Encyclopedia of
+# Integer Sequences has them. Each stands at the dual of its net.
 NETS = {
     "dr36": ("A008579", "3.6.3.6", (4, 8, 14, 18, 22, 28, 30, 38, 38, 48)),
     "ds36": ("A250120", "3^4.6", (5, 9, 15, 19, 24, 29, 33, 39, 43, 48)),
@@ -191,8 +220,11 @@ def recurrence(first, second, factor):
 
 
 def reflections(angles):
-    """How many elements of each length from 1 a group has that is made by reflections in the sides of a polygon with
-    angles pi / m: by 1 / W(1/t) = sum over the finite subgroups T of two sides, one or none of (-1)^|T| / W_T(t)."""
+    """How many elements of each length from 1 the group of reflections in a polygon's sides has.
+
+    Its angles are pi / m for each m of `angles`. The growth series W has
+    1 / W(1/t) = sum of (-1)^|T| / W_T(t) over the finite subgroups of T: none, one or two sides.
+    """
     size = COMPARED + 1
 
     def times(a, b):
@@ -223,14 +255,16 @@ def known():
         found[name] = f"OEIS {sequence}, the coordination sequence of the net {net}", list(counts)
     for name, (sequence, net, factor) in EVEN_NETS.items():
         counts = [factor * n for n in range(1, COMPARED + 1)]
-        found[name] = f"OEIS {sequence}, the coordination sequence of the net {net}: {factor} n", counts
-    for name, p in (("reg54", 5), ("reg73", 7)):
-        found[name] = (f"{p} F(2n), with Fibonacci numbers F: M. Margenstern's tree of the "
-                       + ("pentagrid" if p == 5 else "heptagrid"), recurrence(p, 3 * p, 3))
-    found["reg83"] = ("a(n) = 4 a(n - 1) - a(n - 2) from 8, 32: for {p,3} the factor is p - 4", recurrence(8, 32, 4))
+        source = f"OEIS {sequence}, the coordination sequence of the net {net}: {factor} n"
+        found[name] = source, counts
+    for name, p, grid in (("reg54", 5, "pentagrid"), ("reg73", 7, "heptagrid")):
+        source = f"{p} F(2n), with Fibonacci numbers F: M. Margenstern's tree of the {grid}"
+        found[name] = source, recurrence(p, 3 * p, 3)
+    source = "a(n) = 4 a(n - 1) - a(n - 2) from 8, 32: the factor is p - 4 for {p,3}"
+    found["reg83"] = source, recurrence(8, 32, 4)
     for name in names():
         if name.startswith("mirrors"):
             angles = [int(digit) for digit in name[len("mirrors"):]]
-            found[name] = ("the growth series of the group of its reflections, by R. Steinberg's formula",
-                           reflections(angles))
+            source = "the growth series of the group of its reflections, by R. Steinberg's formula"
+            found[name] = source, reflections(angles)
     return found

@@ -21,174 +21,25 @@ from __future__ import annotations
 import cmath
 from dataclasses import dataclass, field
 from fractions import Fraction
-from math import acosh, asin, atan2, cos, cosh, exp, hypot, log, pi, sin, sinh, sqrt, tan, tanh
-from typing import Callable, Dict, List, NamedTuple, Optional, Sequence, Tuple
+from math import asin, asinh, cos, cosh, pi, sin, sinh, sqrt, tan
+from typing import Callable, Dict, List, Optional, Sequence, Tuple
 
-Type = Tuple[int, int]
-Polygons = Dict[int, List[complex]]
+from circles import Polygons, bent_edges, inscribed_corners, touching_corners
+from kinds import Kind, Type, characteristic, met_from, plane_of, turns_of, vertices
+from plane import Move, along, distance, point, shift
 
-# Residuals that count as none, and lengths or angles that count as equal.
-NOTHING = 1e-11
-EQUAL = 1e-8
+__all__ = ["Kind", "Move", "NoShape", "Shapes", "Type", "along", "characteristic", "distance",
+           "met_from", "plane_of", "point", "shapes", "shift", "vertices"]
 
+# Lengths and angles that are off by less are equal, and those that are off by more do not close.
+EQUAL, APART = 1e-8, 1e-6
 
-class Kind(NamedTuple):
-    """A kind of tile: for each residue below its repeat the type across and the valence."""
-    sides: int
-    repeat: int
-    partner: Tuple[Type, ...]
-    valence: Tuple[int, ...]
+Found = Optional[Polygons]
 
 
 class NoShape(Exception):
     """The tiles cannot be drawn so; the text says why."""
 
-
-# ---- the moves of a plane ------------------------------------------------------------------------
-
-class Move(NamedTuple):
-    """A move of the plane without mirrors.
-
-    In the Poincaré disk it takes z to (a z + b) / (conj(b) z + conj(a)), with |a|^2 - |b|^2 = 1;
-    in the Euclidean plane it takes z to a z + b, with |a| = 1.
-
-    >>> half = Move.turn(pi, True)
-    >>> step = Move.forward(2.0, True)
-    >>> back = step.then(half).then(step).then(half)
-    >>> abs(back.place(0j)) < 1e-12
-    True
-    """
-    a: complex
-    b: complex
-    curved: bool
-
-    @staticmethod
-    def turn(angle: float, curved: bool) -> Move:
-        """The turn about the origin, leftwards."""
-        return Move(cmath.exp(0.5j * angle) if curved else cmath.exp(1j * angle), 0j, curved)
-
-    @staticmethod
-    def forward(length: float, curved: bool) -> Move:
-        """The move along the real axis."""
-        if curved:
-            return Move(complex(cosh(length / 2)), complex(sinh(length / 2)), True)
-        return Move(1 + 0j, complex(length), False)
-
-    def then(self, other: Move) -> Move:
-        """First `self`, then `other` as it is seen from there."""
-        if not self.curved:
-            return Move(self.a * other.a, self.a * other.b + self.b, False)
-        a = self.a * other.a + self.b * other.b.conjugate()
-        b = self.a * other.b + self.b * other.a.conjugate()
-        size = sqrt(abs(a) ** 2 - abs(b) ** 2) if abs(a) < 1e4 else 1.0
-        return Move(a / size, b / size, True)
-
-    def back(self) -> Move:
-        """The move that undoes this one."""
-        if self.curved:
-            return Move(self.a.conjugate(), -self.b, True)
-        return Move(self.a.conjugate(), -self.b * self.a.conjugate(), False)
-
-    def place(self, z: complex) -> complex:
-        """Where the point z comes to."""
-        if self.curved:
-            return (self.a * z + self.b) / (self.b.conjugate() * z + self.a.conjugate())
-        return self.a * z + self.b
-
-
-def point(length: float, angle: float, curved: bool) -> complex:
-    """The point at that distance from the origin, in that direction."""
-    return cmath.rect(tanh(length / 2) if curved else length, angle)
-
-
-def distance(p: complex, q: complex, curved: bool) -> float:
-    """The distance of two points.
-
-    >>> abs(distance(point(1, 0, True), point(2, pi, True), True) - 3) < 1e-12
-    True
-    """
-    if not curved:
-        return abs(p - q)
-    apart = 2 * abs(p - q) ** 2 / ((1 - abs(p) ** 2) * (1 - abs(q) ** 2))
-    return acosh(1 + apart)
-
-
-def shift(p: complex, curved: bool) -> Move:
-    """The move that takes the origin to p without a turn."""
-    if not curved:
-        return Move(1 + 0j, p, False)
-    size = sqrt(1 - abs(p) ** 2)
-    return Move(1 / size + 0j, p / size, True)
-
-
-def along(p: complex, q: complex, curved: bool) -> Move:
-    """The move that takes the origin to p and the real axis to the line towards q."""
-    to = shift(p, curved)
-    seen = to.back().place(q)
-    return to.then(Move.turn(cmath.phase(seen), curved))
-
-
-# ---- what the file says --------------------------------------------------------------------------
-
-def met_from(kinds: Sequence[Kind], start: int = 0) -> List[int]:
-    """The kinds that walks from a tile of kind `start` meet, in increasing order."""
-    met, todo = {start}, [start]
-    for kind in todo:
-        for other, _ in kinds[kind].partner:
-            if other not in met:
-                met.add(other)
-                todo.append(other)
-    return sorted(met)
-
-
-def vertices(kinds: Sequence[Kind], among: Sequence[int]) -> List[List[Type]]:
-    """The corners of the tessellation: each as the cycle of types that `LX` meets round it.
-
-    >>> vertices([Kind(7, 1, ((1, 0),), (3,)), Kind(6, 2, ((0, 0), (1, 1)), (3, 3))], [0, 1])
-    [[(0, 0), (1, 0), (1, 1)]]
-    """
-    cycles, seen = [], set()
-    for start in ((kind, side) for kind in among for side in range(kinds[kind].repeat)):
-        cycle, at = [], start
-        while at not in seen:
-            seen.add(at)
-            cycle.append(at)
-            kind = kinds[at[0]]
-            at = kind.partner[(at[1] + 1) % kind.repeat]
-        if cycle:
-            cycles.append(cycle)
-    return cycles
-
-
-def characteristic(kinds: Sequence[Kind], start: int = 0) -> Fraction:
-    """The Euler characteristic of the tessellation by its moves.
-
-    Below 0 the plane is hyperbolic, at 0 Euclidean, above it the tiles close up.
-
-    >>> characteristic([Kind(7, 1, ((0, 0),), (3,))]), characteristic([Kind(4, 1, ((0, 0),), (4,))])
-    (Fraction(-1, 42), Fraction(0, 1))
-    """
-    among = met_from(kinds, start)
-    total = Fraction(0)
-    for number in among:
-        kind = kinds[number]
-        total += Fraction(kind.repeat, kind.sides) - Fraction(kind.repeat, 2)
-    return total + sum(1 / turns_of(kinds, cycle) for cycle in vertices(kinds, among))
-
-
-def turns_of(kinds: Sequence[Kind], cycle: Sequence[Type]) -> Fraction:
-    """How often a cycle is gone through in one turn round its corner."""
-    kind, side = cycle[0]
-    return Fraction(kinds[kind].valence[side], len(cycle))
-
-
-def plane_of(kinds: Sequence[Kind], start: int = 0) -> str:
-    """'hyperbolic', 'euclidean', or 'closed' where the tiles close up."""
-    sign = characteristic(kinds, start)
-    return "hyperbolic" if sign < 0 else "closed" if sign > 0 else "euclidean"
-
-
-# ---- the answer ----------------------------------------------------------------------------------
 
 @dataclass
 class Shapes:
@@ -197,34 +48,48 @@ class Shapes:
     `corners[k][s]` is the corner at the left end of side s of kind k, and `across[k][s]` the move
     from this tile to the one across side s. Both have an entry for each side, not for each residue.
     `how` is 'equal edges' (and regular polygons), 'inscribed circles' (each edge touches the circle
-    in its tile), 'touching circles', or 'given' by shape lines.
+    in its tile), 'touching circles', 'given' by shape lines, or 'bent edges, not to scale': then
+    `middles[k][s]` is where side s is bent, and else `middles` is empty.
     """
     kinds: Sequence[Kind]
     plane: str
     how: str
     corners: Polygons = field(default_factory=dict)
     across: Dict[int, List[Move]] = field(default_factory=dict)
+    middles: Polygons = field(default_factory=dict)
 
     @property
     def curved(self) -> bool:
         """Whether the plane is the hyperbolic one."""
         return self.plane == "hyperbolic"
 
+    def outline(self, kind: int) -> List[complex]:
+        """The points of a tile in order: its corners, or by turns middles and corners."""
+        if not self.middles:
+            return self.corners[kind]
+        return [z for both in zip(self.middles[kind], self.corners[kind]) for z in both]
+
     def edge(self, kind: int, side: int) -> float:
-        """The length of a side."""
+        """The length of a side, or where it is bent of its half at the left end."""
         ends = self.corners[kind]
-        return distance(ends[side - 1], ends[side], self.curved)
+        start = self.middles[kind][side] if self.middles else ends[side - 1]
+        return distance(start, ends[side], self.curved)
 
     def angle(self, kind: int, side: int) -> float:
         """The angle of the tile at the left end of a side."""
-        ends = self.corners[kind]
-        at, left = ends[side], ends[(side + 1) % len(ends)]
-        turn = cmath.phase(along(at, left, self.curved).back().place(ends[side - 1]))
-        return turn if turn > EQUAL else 2 * pi + turn
+        outline, times = self.outline(kind), 2 if self.middles else 1
+        return angle_between(outline, times * side + times - 1, self.curved)
 
     def crossed(self, kind: int, side: int) -> Tuple[int, int]:
         """The kind across a side, and the residue of the side that is faced there."""
         return self.kinds[kind].partner[side % self.kinds[kind].repeat]
+
+
+def angle_between(outline: Sequence[complex], place: int, curved: bool) -> float:
+    """The angle inside a polygon at one of its points."""
+    at, following = outline[place], outline[(place + 1) % len(outline)]
+    turn = cmath.phase(along(at, following, curved).back().place(outline[place - 1]))
+    return turn if turn > EQUAL else 2 * pi + turn
 
 
 def shapes(kinds: Sequence[Kind], start: int = 0,
@@ -233,7 +98,7 @@ def shapes(kinds: Sequence[Kind], start: int = 0,
 
     Where lengths and angles are `given` these are taken. Else are tried in turn: edges of one
     length with regular polygons; tiles with inscribed circles that touch at the edges; circles
-    round centres and corners that touch each other.
+    round centres and corners that touch each other; and these with edges that are bent.
     Raises NoShape where the tiles close up, where what is given does not close, and where nothing
     is found.
     """
@@ -243,33 +108,38 @@ def shapes(kinds: Sequence[Kind], start: int = 0,
     among = met_from(kinds, start)
     curved = plane == "hyperbolic"
     if given:
-        return finished(kinds, plane, "given", among, given_corners(kinds, among, given, curved))
-    for how, find in (("equal edges", equal_corners), ("inscribed circles", inscribed_corners),
-                      ("touching circles", touching_corners)):
+        found = Shapes(kinds, plane, "given", given_corners(kinds, among, given, curved))
+        off = close(found, among)
+        if off > APART:
+            raise NoShape(f"the lengths and angles that are given do not close: off by {off:.2g}")
+        return found
+    for how, find in WAYS:
         polygons = find(kinds, among, curved)
         if polygons is not None:
-            return finished(kinds, plane, how, among, polygons)
-    raise NoShape("no lengths and angles were found with which all tiles are polygons")
+            found = Shapes(kinds, plane, how, polygons)
+            if find is bent_edges:
+                found.middles = {kind: points[0::2] for kind, points in polygons.items()}
+                found.corners = {kind: points[1::2] for kind, points in polygons.items()}
+            if close(found, among) <= APART:
+                return found
+    raise NoShape("no lengths and angles were found: some tile meets itself")
 
 
-def finished(kinds: Sequence[Kind], plane: str, how: str, among: Sequence[int],
-             polygons: Polygons) -> Shapes:
-    """The answer over corners: the moves across sides, and a look whether all closes."""
-    found = Shapes(kinds, plane, how, polygons)
-    curved = found.curved
+def close(found: Shapes, among: Sequence[int]) -> float:
+    """Works out the moves across sides, and answers how far the shapes are from closing."""
     for kind in among:
-        ends, moves = polygons[kind], []
-        for side in range(kinds[kind].sides):
+        found.across[kind] = []
+        for side in range(found.kinds[kind].sides):
             other, back = found.crossed(kind, side)
-            theirs = polygons[other]
-            here = along(ends[side], ends[side - 1], curved)
-            there = along(theirs[back - 1], theirs[back], curved)
-            moves.append(here.then(there.back()))
-        found.across[kind] = moves
-    off = closing_error(found, among)
-    if off > 1e-6:
-        raise NoShape(f"lengths and angles do not close ({how}): they are off by {off:.2g}")
-    return found
+            here, there = found.corners[kind], found.corners[other]
+            if found.middles:
+                near = along(found.middles[kind][side], here[side], found.curved)
+                far = along(found.middles[other][back], there[back - 1], found.curved)
+            else:
+                near = along(here[side], here[side - 1], found.curved)
+                far = along(there[back - 1], there[back], found.curved)
+            found.across[kind].append(near.then(far.back()))
+    return closing_error(found, among)
 
 
 def closing_error(found: Shapes, among: Sequence[int]) -> float:
@@ -280,8 +150,11 @@ def closing_error(found: Shapes, among: Sequence[int]) -> float:
         worst = max(worst, abs(total * turns_of(found.kinds, cycle) - 2 * pi))
     for kind in among:
         for side in range(found.kinds[kind].sides):
-            theirs = found.edge(*found.crossed(kind, side))
-            worst = max(worst, abs(found.edge(kind, side) - theirs))
+            other, back = found.crossed(kind, side)
+            theirs = [found.across[kind][side].place(z) for z in found.corners[other]]
+            ends = found.corners[kind]
+            for mine, there in ((ends[side], theirs[back - 1]), (ends[side - 1], theirs[back])):
+                worst = max(worst, distance(mine, there, found.curved))
     return worst
 
 
@@ -311,13 +184,13 @@ def equal_edge(kinds: Sequence[Kind], among: Sequence[int]) -> Optional[float]:
     return edge
 
 
-def equal_corners(kinds: Sequence[Kind], among: Sequence[int], curved: bool) -> Optional[Polygons]:
+def equal_corners(kinds: Sequence[Kind], among: Sequence[int], curved: bool) -> Found:
     """The corners of regular polygons with one length of edge, where they close."""
     if curved:
         edge = equal_edge(kinds, among)
         if edge is None:
             return None
-        radius = {k: asinh_ratio(sinh(edge / 2), sin(pi / kinds[k].sides)) for k in among}
+        radius = {k: asinh(sinh(edge / 2) / sin(pi / kinds[k].sides)) for k in among}
     else:
         for cycle in vertices(kinds, among):
             total = sum(Fraction(1, 2) - Fraction(1, kinds[k].sides) for k, _ in cycle)
@@ -332,208 +205,12 @@ def equal_corners(kinds: Sequence[Kind], among: Sequence[int], curved: bool) -> 
     return polygons
 
 
-def asinh_ratio(above: float, below: float) -> float:
-    """asinh(above / below)."""
-    ratio = above / below
-    return log(ratio + sqrt(ratio * ratio + 1))
-
-
-# ---- circles -------------------------------------------------------------------------------------
-
-@dataclass
-class Circles:
-    """The unknown radii: one for each kind, and then one for each cycle of corners."""
-    kinds: Sequence[Kind]
-    among: Sequence[int]
-    curved: bool
-    cycles: List[List[Type]] = field(default_factory=list)
-    of_kind: Dict[int, int] = field(default_factory=dict)
-    of_corner: Dict[Type, int] = field(default_factory=dict)
-
-    def __post_init__(self) -> None:
-        self.cycles = vertices(self.kinds, self.among)
-        self.of_kind = {kind: number for number, kind in enumerate(self.among)}
-        self.of_corner = {corner: len(self.among) + number
-                          for number, cycle in enumerate(self.cycles) for corner in cycle}
-
-    def count(self) -> int:
-        """How many radii there are."""
-        return len(self.among) + len(self.cycles)
-
-    def weights(self) -> List[float]:
-        """How often an angle at each circle is met in a full turn."""
-        kinds = [self.kinds[k].sides / self.kinds[k].repeat for k in self.among]
-        return kinds + [float(turns_of(self.kinds, cycle)) for cycle in self.cycles]
-
-
-def leg_angle(near: float, far: float, curved: bool) -> float:
-    """The angle between the leg `near` and the longest side of a triangle with a right angle."""
-    return atan2(tanh(far), sinh(near)) if curved else atan2(far, near)
-
-
-def inscribed_turns(circles: Circles, radii: Sequence[float]) -> List[float]:
-    """The sum of angles about each circle, where edges touch the circles in both their tiles."""
-    total = [0.0] * circles.count()
-    for corner, at in circles.of_corner.items():
-        kind = circles.of_kind[corner[0]]
-        total[kind] += 2 * leg_angle(radii[kind], radii[at], circles.curved)
-        total[at] += 2 * leg_angle(radii[at], radii[kind], circles.curved)
-    return [a * b for a, b in zip(total, circles.weights())]
-
-
-def side_angle(a: float, b: float, c: float, curved: bool) -> float:
-    """The angle between sides a and b of a triangle, opposite to c."""
-    if not curved:
-        value = (a * a + b * b - c * c) / (2 * a * b)
-    else:
-        value = (cosh(a) * cosh(b) - cosh(c)) / (sinh(a) * sinh(b))
-    return acos_within(value)
-
-
-def acos_within(value: float) -> float:
-    """The angle with that cosine, taken within -1 and 1."""
-    value = max(-1.0, min(1.0, value))
-    return atan2(sqrt(1 - value * value), value)
-
-
-def touching_turns(circles: Circles, radii: Sequence[float]) -> List[float]:
-    """The sum of angles about each circle, where those of an edge's ends and its tile touch."""
-    total = [0.0] * circles.count()
-    for number in circles.among:
-        kind, at = circles.kinds[number], circles.of_kind[number]
-        for side in range(kind.repeat):
-            right = circles.of_corner[number, (side - 1) % kind.repeat]
-            left = circles.of_corner[number, side]
-            x, y, z = radii[at], radii[right], radii[left]
-            total[at] += side_angle(x + y, x + z, y + z, circles.curved)
-            total[right] += side_angle(y + x, y + z, x + z, circles.curved)
-            total[left] += side_angle(z + x, z + y, x + y, circles.curved)
-    return [a * b for a, b in zip(total, circles.weights())]
-
-
-def solved(circles: Circles, turns: Callable[[Circles, Sequence[float]], List[float]]
-           ) -> Optional[List[float]]:
-    """The radii with which each sum of angles is a full turn, by Newton's way with shortened steps.
-
-    The sums are the slopes of a convex function of radii that are measured well, so each whole step
-    points downwards. None where no radii are found.
-    """
-    count = circles.count()
-    fixed = 0 if circles.curved else 1      # in the Euclidean plane one radius is the unit
-    logs = [log(0.5) if circles.curved else 0.0] * count
-
-    def missing(at: Sequence[float]) -> List[float]:
-        return [t - 2 * pi for t in turns(circles, [exp(x) for x in at])]
-
-    now = missing(logs)
-    for _ in range(200):
-        size = sqrt(sum(x * x for x in now))
-        if size < NOTHING * count:
-            return [exp(x) for x in logs]
-        step = newton_step(logs, now, missing, fixed)
-        if step is None:
-            return None
-        scale = min(1.0, 2.0 / max(1e-9, max(abs(x) for x in step)))
-        while scale > 1e-6:
-            tried = [x - scale * d for x, d in zip(logs, step)]
-            if max(abs(x) for x in tried) < 40:
-                then = missing(tried)
-                if sqrt(sum(x * x for x in then)) < size * (1 - scale / 10):
-                    break
-            scale /= 2
-        else:
-            return [exp(x) for x in logs] if size < 1e-8 else None
-        logs, now = tried, then
-    return None
-
-
-def newton_step(logs: List[float], now: List[float],
-                missing: Callable[[Sequence[float]], List[float]],
-                fixed: int) -> Optional[List[float]]:
-    """The step that would mend the sums if they were linear; the first `fixed` logs stay."""
-    free = range(fixed, len(logs))
-    columns = []
-    for j in free:
-        moved = list(logs)
-        moved[j] += 1e-6
-        above = missing(moved)
-        moved[j] -= 2e-6
-        below = missing(moved)
-        columns.append([(a - b) / 2e-6 for a, b in zip(above, below)])
-    rows = [[column[i] for column in columns] + [now[i]] for i in free]
-    answer = eliminated(rows)
-    return None if answer is None else [0.0] * fixed + answer
-
-
-def eliminated(rows: List[List[float]]) -> Optional[List[float]]:
-    """The solution of linear equations, each row with its right side last."""
-    count = len(rows)
-    for at in range(count):
-        best = max(range(at, count), key=lambda i: abs(rows[i][at]))
-        if abs(rows[best][at]) < 1e-14:
-            return None
-        rows[at], rows[best] = rows[best], rows[at]
-        first = rows[at]
-        for row in rows[at + 1:]:
-            if row[at]:
-                factor = row[at] / first[at]
-                for j in range(at, count + 1):
-                    row[j] -= factor * first[j]
-    answer = [0.0] * count
-    for at in reversed(range(count)):
-        behind = sum(rows[at][j] * answer[j] for j in range(at + 1, count))
-        answer[at] = (rows[at][count] - behind) / rows[at][at]
-    return answer
-
-
-def inscribed_corners(kinds: Sequence[Kind], among: Sequence[int],
-                      curved: bool) -> Optional[Polygons]:
-    """The corners of tiles with inscribed circles, two of which touch at each edge.
-
-    By the theorem of Koebe, Andreev and Thurston there is one such picture, but for moves, of each
-    tessellation in which no two tiles share more than an edge or a corner. So it has all its
-    symmetries, mirrors too. None where there are no such tiles.
-    """
-    circles = Circles(kinds, among, curved)
-    radii = solved(circles, inscribed_turns)
-    if radii is None:
-        return None
-    polygons = {}
-    for number in among:
-        kind, inner = kinds[number], radii[circles.of_kind[number]]
-        at, ends = 0.0, []
-        for side in range(kind.sides):
-            outer = radii[circles.of_corner[number, side % kind.repeat]]
-            half = leg_angle(inner, outer, curved)
-            far = acosh(cosh(inner) * cosh(outer)) if curved else hypot(inner, outer)
-            ends.append(point(far, at + half, curved))
-            at += 2 * half
-        polygons[number] = ends
-    return polygons
-
-
-def touching_corners(kinds: Sequence[Kind], among: Sequence[int],
-                     curved: bool) -> Optional[Polygons]:
-    """The corners of tiles where circles round centres and corners touch along edges and spokes.
-
-    None where there are no such tiles.
-    """
-    circles = Circles(kinds, among, curved)
-    radii = solved(circles, touching_turns)
-    if radii is None:
-        return None
-    polygons = {}
-    for number in among:
-        kind, inner = kinds[number], radii[circles.of_kind[number]]
-        outer = [radii[circles.of_corner[number, s % kind.repeat]] for s in range(kind.sides)]
-        wide = [side_angle(inner + right, inner + left, right + left, curved)
-                for right, left in zip(outer[-1:] + outer, outer)]
-        at, ends = -wide[0] / 2, []
-        for side in range(kind.sides):
-            at += wide[side]
-            ends.append(point(inner + outer[side], at, curved))
-        polygons[number] = ends
-    return polygons
+WAYS: Tuple[Tuple[str, Callable[[Sequence[Kind], Sequence[int], bool], Found]], ...] = (
+    ("equal edges", equal_corners),
+    ("inscribed circles", inscribed_corners),
+    ("touching circles", touching_corners),
+    ("bent edges, not to scale", bent_edges),
+)
 
 
 # ---- given shapes --------------------------------------------------------------------------------
@@ -562,7 +239,7 @@ def given_corners(kinds: Sequence[Kind], among: Sequence[int],
 
 
 def centred(ends: List[complex], curved: bool) -> List[complex]:
-    """The polygon moved so that its centre is the origin and the middle of side 0 lies ahead."""
+    """The polygon moved so that its centre is the origin and side 0 lies ahead."""
     if curved:      # the mean of the points on the hyperboloid, seen in the disk again
         weights = [1 / (1 - abs(z) ** 2) for z in ends]
         mean = sum(w * z for w, z in zip(weights, ends)) / (sum(weights) - len(ends) / 2)
@@ -571,5 +248,11 @@ def centred(ends: List[complex], curved: bool) -> List[complex]:
         mean = sum(ends) / len(ends)
     back = shift(mean, curved).back()
     ends = [back.place(z) for z in ends]
-    turn = Move.turn(-cmath.phase((ends[-1] + ends[0]) / 2), curved)
+    # The way ahead meets side 0 at a right angle.
+    right, left = ends[-1], ends[0]
+    if curved:
+        ahead = -1j * (left * (1 + abs(right) ** 2) - right * (1 + abs(left) ** 2))
+    else:
+        ahead = -1j * (left - right)
+    turn = Move.turn(-cmath.phase(ahead), curved)
     return [turn.place(z) for z in ends]

@@ -19,7 +19,6 @@ COLOURS = ("#e9b44c", "#6c9bd2", "#8dbf67", "#d0706a", "#9c87c8", "#5bb0aa", "#d
 LINE = "#2b2b33"
 GROUND = "#f4f2ec"
 RIM = "#55555f"
-SHADE = "#8a8a92"
 
 
 class Tile(NamedTuple):
@@ -31,8 +30,8 @@ class Tile(NamedTuple):
     place: Move
 
     def corners(self, shapes: Shapes) -> List[complex]:
-        """Its corners in their places."""
-        return [self.place.place(z) for z in shapes.corners[self.kind]]
+        """Its corners in their places, and where edges are bent their middles."""
+        return [self.place.place(z) for z in shapes.outline(self.kind)]
 
 
 def child(tile: Tile, name: str, side: int, shapes: Shapes) -> Tile:
@@ -44,12 +43,9 @@ def child(tile: Tile, name: str, side: int, shapes: Shapes) -> Tile:
     return Tile(name, tile.level + 1, kind, home, place)
 
 
-def placed(ring: Callable[[int], Optional[Sequence[str]]], shapes: Shapes, root: int,
-           goes_on: Callable[[int, List[Tile]], bool]) -> Iterator[Tile]:
-    """The tiles ring by ring, from the names that `ring` answers (None where it refuses).
-
-    Behind each ring `goes_on` is asked, with its number and tiles, whether the next one is wanted.
-    """
+def placed(ring: Callable[[int], Optional[Sequence[str]]], shapes: Shapes,
+           root: int) -> Iterator[List[Tile]]:
+    """The tiles ring by ring, from the names that `ring` answers (None where it refuses)."""
     start = Tile("-", 0, root, 0, Move(1 + 0j, 0j, shapes.curved))
     inner: Dict[str, Tile] = {}
     level, names = 0, ring(0)
@@ -58,9 +54,7 @@ def placed(ring: Callable[[int], Optional[Sequence[str]]], shapes: Shapes, root:
         for name in names:
             above, _, side = name.rpartition(".")
             tiles[name] = child(inner[above or "-"], name, int(side), shapes) if level else start
-        yield from tiles.values()
-        if not goes_on(level, list(tiles.values())):
-            return
+        yield list(tiles.values())
         inner, level = tiles, level + 1
         names = ring(level)
 
@@ -75,10 +69,13 @@ def in_view(ring: Callable[[int], Optional[Sequence[str]]], shapes: Shapes, view
         ends = tile.corners(shapes)
         return view.shows(ends) and view.width(ends) >= least
 
-    def goes_on(level: int, tiles: List[Tile]) -> bool:
-        return level < depth if depth is not None else any(map(is_seen, tiles))
-
-    return [tile for tile in placed(ring, shapes, root, goes_on) if is_seen(tile)]
+    found: List[Tile] = []
+    for level, tiles in enumerate(placed(ring, shapes, root)):
+        seen = [tile for tile in tiles if is_seen(tile)]
+        found += seen
+        if level == depth or (depth is None and not seen):
+            break
+    return found
 
 
 # ---- the view ------------------------------------------------------------------------------------
@@ -109,8 +106,9 @@ class View:
                 round(FINE * (middle - self.scale * z.imag)))
 
     def width(self, ends: Sequence[complex]) -> float:
-        """How large a tile is, in pixels: the greatest distance of two of its corners."""
-        return self.scale * max(abs(a - b) for a in ends for b in ends)
+        """How large a tile is, in pixels: twice the greatest distance of a corner from their mean."""
+        centre = sum(ends) / len(ends)
+        return 2 * self.scale * max(abs(z - centre) for z in ends)
 
     def shows(self, ends: Sequence[complex]) -> bool:
         """Whether some of the tile may lie in the picture."""
@@ -157,7 +155,20 @@ def outline(ends: Sequence[complex], view: View) -> str:
     x, y = view.spot(ends[-1])
     pieces = [piece(a, b, view) for a, b in zip([ends[-1], *ends[:-2]], ends[:-1])]
     last = piece(ends[-2], ends[-1], view)
-    return f"M{x} {y}" + "".join(pieces) + (last if last[0] == "a" else "") + "z"
+    return f"M{x} {y}" + joined(pieces + [last] * (last[0] == "a")) + "z"
+
+
+def joined(pieces: Sequence[str]) -> str:
+    """The pieces of a path, without letters that repeat the one before and spaces before signs.
+
+    >>> joined(["l10 -20", "l-3 4", "a5 5 0 0 1 7 8"])
+    'l10-20-3 4a5 5 0 0 1 7 8'
+    """
+    words, letter = "", ""
+    for one in pieces:
+        words += " " + one[1:] if one[0] == letter else one
+        letter = one[0]
+    return words.replace(" -", "-")
 
 
 # ---- the picture ---------------------------------------------------------------------------------
@@ -187,9 +198,14 @@ def line_width(pixels: float) -> float:
 
 @dataclass(frozen=True)
 class Style:
-    """What a picture shows beside the tiles: their names, and a title."""
+    """How a picture is drawn.
+
+    `labels`: with names; `handed`: every other kind is a mirrored one; `rim`: what lies further out
+    in the disk is as dark as tiles that are too small.
+    """
     labels: bool = False
     handed: bool = False
+    rim: bool = True
     title: str = ""
 
 
@@ -208,7 +224,8 @@ def svg(tiles: Iterable[Tile], shapes: Shapes, view: View, style: Style) -> str:
              f'viewBox="0 0 {full} {full}">']
     if style.title:
         lines.append(f"<title>{escaped(style.title)}</title>")
-    lines.append(ground(view))
+    colours = [colour for (colour, _), pieces in paths.items() for _ in pieces]
+    lines.append(ground(view, colours if style.rim else []))
     lines.append(f'<g stroke="{LINE}" stroke-linejoin="round">')
     for (colour, width), pieces in sorted(paths.items()):
         path = "".join(pieces)
@@ -216,19 +233,33 @@ def svg(tiles: Iterable[Tile], shapes: Shapes, view: View, style: Style) -> str:
     lines.append("</g>")
     if texts:
         lines += ['<g font-family="sans-serif" text-anchor="middle" fill="#111">', *texts, "</g>"]
+    if shapes.middles:
+        lines.append(f'<text x="{FINE * 4}" y="{full - FINE * 6}" font-family="sans-serif" '
+                     f'font-size="{FINE * 12}" fill="#111">not to scale</text>')
     if view.curved:
         lines.append(f'<circle cx="{full // 2}" cy="{full // 2}" r="{round(FINE * view.scale)}" '
                      f'fill="none" stroke="{RIM}" stroke-width="{FINE}"/>')
     return "\n".join([*lines, "</svg>"]) + "\n"
 
 
-def ground(view: View) -> str:
-    """What lies behind the tiles: the paper, or the disk, dark where tiles are too small."""
+def ground(view: View, colours: Sequence[str]) -> str:
+    """What lies behind the tiles: paper, in a disk where there are colours as small tiles look."""
     full = FINE * view.size
     if not view.curved:
         return f'<rect width="{full}" height="{full}" fill="{GROUND}"/>'
+    colour = mixed(mean(colours), LINE, 0.35) if colours else GROUND
     radius = round(FINE * view.scale)
-    return f'<circle cx="{full // 2}" cy="{full // 2}" r="{radius}" fill="{SHADE}"/>'
+    return f'<circle cx="{full // 2}" cy="{full // 2}" r="{radius}" fill="{colour}"/>'
+
+
+def mean(colours: Sequence[str]) -> str:
+    """The mean of colours.
+
+    >>> mean(["#102030", "#304050"])
+    '#203040'
+    """
+    parts = [[int(colour[i:i + 2], 16) for colour in colours] for i in (1, 3, 5)]
+    return "#" + "".join(f"{round(sum(part) / len(part)):02x}" for part in parts)
 
 
 def label(tile: Tile, ends: Sequence[complex], view: View) -> List[str]:
