@@ -12,7 +12,7 @@ const canvas = document.getElementById("plane");
 const pen = canvas.getContext("2d");
 const field = (name) => document.getElementById(name);
 
-let tables;             // kinds with corners and moves, from the server
+let tables;             // kinds with outlines and moves, from the server
 let plane;
 let state;              // what the server told last
 const rings = new Map(); // the tiles around, by kind
@@ -54,14 +54,8 @@ function ask(what) {
 
 // --- where things lie ---
 
-function middle(kind, side) {
-  const ends = tables.kinds[kind].corners;
-  const [p, q] = [ends[(side + ends.length - 1) % ends.length], ends[side]];
-  return Math.atan2(p[1] + q[1], p[0] + q[0]);
-}
-
 // The turn of a tile with which that side is ahead.
-const upright = (kind, side) => plane.turn(Math.PI / 2 - middle(kind, side));
+const upright = (kind, side) => plane.turn(Math.PI / 2 - tables.kinds[kind].ahead[side]);
 
 // The move from the tile before to the tile after some letters, in the numbers that the server uses.
 function movedBy(before, letters) {
@@ -76,8 +70,8 @@ function movedBy(before, letters) {
       side = (side + STEP[letter] + sides) % sides;
     }
   }
-  const residue = side % tables.kinds[kind].repeat;
-  return plane.then(move, plane.turn(middle(kind, side) - middle(kind, residue)));
+  const { ahead, repeat } = tables.kinds[kind];
+  return plane.then(move, plane.turn(ahead[side] - ahead[side % repeat]));
 }
 
 // --- drawing ---
@@ -86,8 +80,8 @@ function size() {
   const ratio = window.devicePixelRatio || 1;
   const [wide, high] = [Math.round(canvas.clientWidth * ratio), Math.round(canvas.clientHeight * ratio)];
   if (canvas.width !== wide || canvas.height !== high) [canvas.width, canvas.height] = [wide, high];
-  const half = Math.min(wide, high) / 2;
-  const scale = plane.curved ? half - 8 * ratio : tables.scale * half / 400;
+  // The disk as a whole; of the plane as much as lies around in each direction.
+  const scale = plane.curved ? Math.min(wide, high) / 2 - 8 * ratio : tables.scale * Math.hypot(wide, high) / 800;
   return { wide, high, ratio, scale, x: wide / 2, y: high / 2 };
 }
 
@@ -114,8 +108,14 @@ function outline(at, ends) {
   pen.closePath();
 }
 
-function write(at, ends, text) {
-  const [x, y] = spot(at, ends.reduce(([a, b], [c, d]) => [a + c / ends.length, b + d / ends.length], [0, 0]));
+// Lines of small tiles are thin, so that these are seen too.
+function thin(at, [p, q]) {
+  return at.ratio * Math.max(0.25, Math.min(1.2, Math.hypot(p[0] - q[0], p[1] - q[1]) * at.scale / (14 * at.ratio)));
+}
+
+// Writes in the middle of a tile, or below the player's arrow; a dot where there is no room.
+function write(at, ends, text, below) {
+  let [x, y] = spot(at, ends.reduce(([a, b], [c, d]) => [a + c / ends.length, b + d / ends.length], [0, 0]));
   const wide = at.scale * Math.min(...ends.map((end, number) => {
     const other = ends[(number + Math.floor(ends.length / 2)) % ends.length];
     return Math.hypot(end[0] - other[0], end[1] - other[1]);
@@ -127,6 +127,7 @@ function write(at, ends, text) {
     pen.fill();
     return;
   }
+  if (below) y += wide / 6;
   pen.font = `${Math.min(18 * at.ratio, wide / 5)}px system-ui, sans-serif`;
   pen.textAlign = "center";
   pen.textBaseline = "middle";
@@ -140,15 +141,16 @@ function draw(move) {
   const at = size();
   pen.fillStyle = GROUND;
   pen.fillRect(0, 0, at.wide, at.high);
-  pen.lineWidth = 1.2 * at.ratio;
   pen.strokeStyle = LINE;
+  pen.lineJoin = "round";
   const tiles = rings.get(state.kind);
   const placed = tiles.map((tile) => {
     const place = plane.then(move, tile.place);
-    return tables.kinds[tile.kind].corners.map((corner) => plane.place(place, corner));
+    return tables.kinds[tile.kind].outline.map((corner) => plane.place(place, corner));
   });
   tiles.forEach((tile, number) => {
     outline(at, placed[number]);
+    pen.lineWidth = thin(at, placed[number]);
     pen.fillStyle = COLOURS[tile.kind % COLOURS.length];
     pen.fill();
     if (number === state.start) {
@@ -158,8 +160,9 @@ function draw(move) {
     pen.stroke();
   });
   for (const [number, text] of Object.entries(state.texts)) {
-    if (placed[number]) write(at, placed[number], text);
+    if (placed[number]) write(at, placed[number], text, number === "0");
   }
+  pen.lineWidth = 1.2 * at.ratio;
   if (plane.curved) {
     pen.beginPath();
     pen.arc(at.x, at.y, at.scale, 0, 7);
@@ -259,7 +262,7 @@ function tileAt(event) {
   }, false);
   return rings.get(state.kind).findIndex((tile) => {
     const place = plane.then(shown, tile.place);
-    return inside(tables.kinds[tile.kind].corners.map((corner) => plane.place(place, corner)));
+    return inside(tables.kinds[tile.kind].outline.map((corner) => plane.place(place, corner)));
   });
 }
 

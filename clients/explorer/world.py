@@ -8,6 +8,7 @@ whose names are short: each is a walk from the player's tile, and says where to 
 from __future__ import annotations
 
 import sys
+from cmath import phase
 from pathlib import Path
 from typing import Any, Dict, Iterator, List, NamedTuple, Optional, Tuple
 
@@ -25,6 +26,8 @@ __all__ = ["Map", "NoShape", "WagbireluError", "World"]
 
 #: Tiles of the disk that are smaller are not drawn, in hundredths of its radius.
 LEAST = 1.8
+#: In the plane about so many tiles lie from one edge of the view to the other.
+ACROSS = 16.0
 #: Tiles that are smaller show no text.
 TEXT_LEAST = 4.0
 #: No tile that a walker comes to is more crossings from the root.
@@ -55,9 +58,10 @@ class World:
     0.4 2 2 camp
     """
 
-    def __init__(self, found: Map, file: Optional[str] = None) -> None:
+    def __init__(self, found: Map, file: Optional[str] = None, title: str = "") -> None:
         self.map = found
         self.file = file
+        self.title = title
         self.shapes = shapes_of(found.tessellation.check(), found.kind)
         self.kinds = found.tessellation.expanded.kinds
         while not all(number in found.walkers for number in (PLAYER, EYE, START)):
@@ -69,19 +73,22 @@ class World:
     # --- what the page asks for ---
 
     def tables(self) -> Dict[str, Any]:
-        """Kinds with their corners, and the move across each side: all that the page needs to place tiles."""
-        found = []
-        for number, kind in enumerate(self.kinds):
-            sides = range(kind.sides)
-            found.append({
-                "sides": kind.sides,
-                "repeat": kind.repeat,
-                "corners": [pair(z) for z in self.shapes.corners[number]] if number in self.shapes.corners else [],
-                "across": [move(self.shapes.across[number][side]) for side in sides] if number in self.shapes.across else [],
-                "crossed": [list(self.shapes.crossed(number, side)) for side in sides],
-            })
-        title = Path(self.file).name if self.file else "a map that is not kept"
-        return {"curved": self.shapes.curved, "scale": self._view().scale, "kinds": found, "title": title}
+        """Kinds with what they look like, and the move across each side: all that the page needs to place tiles."""
+        kinds = [self._table(number) for number in range(len(self.kinds))]
+        return {"curved": self.shapes.curved, "scale": self._view().scale, "kinds": kinds, "title": self.title}
+
+    def _table(self, kind: int) -> Dict[str, Any]:
+        """The outline of a kind, the direction in which each side lies, and what lies across it."""
+        sides = range(self.kinds[kind].sides)
+        table = {"sides": len(sides), "repeat": self.kinds[kind].repeat}
+        if kind in self.shapes.corners:  # those that walks from the root meet
+            ends = self.shapes.corners[kind]
+            middles = self.shapes.middles[kind] if self.shapes.middles else [ends[side - 1] + ends[side] for side in sides]
+            table["outline"] = [pair(z) for z in self.shapes.outline(kind)]
+            table["ahead"] = [round(phase(z), 9) for z in middles]
+            table["across"] = [move(self.shapes.across[kind][side]) for side in sides]
+            table["crossed"] = [self.shapes.crossed(kind, side) for side in sides]
+        return table
 
     def around(self, kind: int) -> List[Any]:
         """The tiles around a tile of a kind: kind and place of each."""
@@ -160,7 +167,7 @@ class World:
         return self._near[kind]
 
     def _view(self) -> View:
-        return View.of(self.shapes, 800)
+        return View.of(self.shapes, 800, across=ACROSS)
 
     def _read_around(self, kind: int, residue: int, level: int) -> Tuple[Dict[int, str], Optional[int]]:
         """The texts on the tiles around, by their numbers, and the number of the tile to go back to, if it is there."""
