@@ -2,7 +2,8 @@
 
 import { Plane } from "./plane.js";
 
-const COLOURS = ["#e9b44c", "#6c9bd2", "#8dbf67", "#d0706a", "#9c87c8", "#5bb0aa", "#d88fb2", "#b0a06b", "#7f8fa6", "#c98b4f"];
+const COLOURS = ["#e9b44c", "#6c9bd2", "#8dbf67", "#d0706a", "#9c87c8", "#5bb0aa", "#d88fb2",
+                 "#b0a06b", "#7f8fa6", "#c98b4f"];
 const LINE = "#2b2b33";
 const GROUND = "#f4f2ec";
 const MILLISECONDS = new URLSearchParams(location.search).has("still") ? 0 : 180;
@@ -22,7 +23,7 @@ let line = Promise.resolve();
 // --- asking ---
 
 async function told(path, body) {
-  const reply = await fetch(path, body ? { method: "POST", body: JSON.stringify(body) } : undefined);
+  const reply = await fetch(path, body && { method: "POST", body: JSON.stringify(body) });
   if (!reply.ok) throw new Error(await reply.text());
   return reply.json();
 }
@@ -45,8 +46,9 @@ function ask(what) {
     await around(next.kind);
     state = next;
     tell(next);
-    const moved = before && asked.do === "go" && !next.refused ? movedBy(before, asked.letters) : null;
-    await show(upright(next.kind, next.side), moved && plane.then(shown, moved));
+    const moved = before && asked.do === "go" && !next.refused;
+    const from = moved ? plane.then(shown, movedBy(before, asked.letters)) : null;
+    await show(upright(next.kind, next.side), from);
   }).catch((error) => { field("said").textContent = error.message || "the program has ended"; })
     .finally(() => { document.body.dataset.turn = Number(document.body.dataset.turn || 0) + 1; });
   return line;
@@ -57,7 +59,7 @@ function ask(what) {
 // The turn of a tile with which that side is ahead.
 const upright = (kind, side) => plane.turn(Math.PI / 2 - tables.kinds[kind].ahead[side]);
 
-// The move from the tile before to the tile after some letters, in the numbers that the server uses.
+// The move from the tile before to the tile after some letters, in the numbers of the server.
 function movedBy(before, letters) {
   let { kind, side } = before;
   let move = plane.still;
@@ -78,10 +80,13 @@ function movedBy(before, letters) {
 
 function size() {
   const ratio = window.devicePixelRatio || 1;
-  const [wide, high] = [Math.round(canvas.clientWidth * ratio), Math.round(canvas.clientHeight * ratio)];
+  const wide = Math.round(canvas.clientWidth * ratio);
+  const high = Math.round(canvas.clientHeight * ratio);
   if (canvas.width !== wide || canvas.height !== high) [canvas.width, canvas.height] = [wide, high];
   // The disk as a whole; of the plane as much as lies around in each direction.
-  const scale = plane.curved ? Math.min(wide, high) / 2 - 8 * ratio : tables.scale * Math.hypot(wide, high) / 800;
+  const scale = plane.curved
+    ? Math.min(wide, high) / 2 - 8 * ratio
+    : tables.scale * Math.hypot(wide, high) / 800;
   return { wide, high, ratio, scale, x: wide / 2, y: high / 2 };
 }
 
@@ -89,8 +94,10 @@ function spot(at, [x, y]) {
   return [at.x + at.scale * x, at.y - at.scale * y];
 }
 
+const apart = (p, q) => Math.hypot(p[0] - q[0], p[1] - q[1]);
+
 function edge(at, p, q) {
-  const circle = Math.hypot(p[0] - q[0], p[1] - q[1]) * at.scale > 6 * at.ratio && plane.circle(p, q);
+  const circle = apart(p, q) * at.scale > 6 * at.ratio && plane.circle(p, q);
   if (!circle || circle.radius > 300) {
     pen.lineTo(...spot(at, q));
     return;
@@ -110,15 +117,16 @@ function outline(at, ends) {
 
 // Lines of small tiles are thin, so that these are seen too.
 function thin(at, [p, q]) {
-  return at.ratio * Math.max(0.25, Math.min(1.2, Math.hypot(p[0] - q[0], p[1] - q[1]) * at.scale / (14 * at.ratio)));
+  return Math.max(0.25 * at.ratio, Math.min(1.2 * at.ratio, apart(p, q) * at.scale / 14));
 }
 
 // Writes in the middle of a tile, or below the player's arrow; a dot where there is no room.
 function write(at, ends, text, below) {
-  let [x, y] = spot(at, ends.reduce(([a, b], [c, d]) => [a + c / ends.length, b + d / ends.length], [0, 0]));
+  const mean = (part) => ends.reduce((sum, end) => sum + end[part], 0) / ends.length;
+  let [x, y] = spot(at, [mean(0), mean(1)]);
   const wide = at.scale * Math.min(...ends.map((end, number) => {
     const other = ends[(number + Math.floor(ends.length / 2)) % ends.length];
-    return Math.hypot(end[0] - other[0], end[1] - other[1]);
+    return apart(end, other);
   }));
   if (wide < 34 * at.ratio) {
     pen.beginPath();
@@ -132,7 +140,9 @@ function write(at, ends, text, below) {
   pen.textAlign = "center";
   pen.textBaseline = "middle";
   let words = text || "·";
-  while (words.length > 1 && pen.measureText(words).width > 0.8 * wide) words = `${words.slice(0, -2)}…`;
+  while (words.length > 1 && pen.measureText(words).width > 0.8 * wide) {
+    words = `${words.slice(0, -2)}…`;
+  }
   pen.fillStyle = LINE;
   pen.fillText(words, x, y);
 }
@@ -201,7 +211,11 @@ async function show(to, from) {
 
 const frame = () => new Promise((done) => requestAnimationFrame(done));
 
-const cut = (text, length = 60) => (text.length > length ? `${text.slice(0, length / 2)} … ${text.slice(-length / 2)}` : text);
+// A long text without its middle.
+function cut(text, length = 60) {
+  if (text.length <= length) return text;
+  return `${text.slice(0, length / 2)} … ${text.slice(-length / 2)}`;
+}
 
 function tell(now) {
   field("name").textContent = cut(now.name);
@@ -250,19 +264,25 @@ function submit(event) {
   ask({ do: "put", text });
 }
 
-// The tile at a point of the screen: the one whose centre is nearest, as the plane measures.
+// Whether a point lies in a polygon: a line from it crosses an odd number of edges.
+function isInside([x, y], ends) {
+  return ends.reduce((odd, [px, py], number) => {
+    const [qx, qy] = ends[(number + ends.length - 1) % ends.length];
+    const meets = (py > y) !== (qy > y) && x < (qx - px) * (y - py) / (qy - py) + px;
+    return meets ? !odd : odd;
+  }, false);
+}
+
+// The number of the tile at a point of the screen, -1 where none is.
 function tileAt(event) {
   const at = size();
   const box = canvas.getBoundingClientRect();
-  const point = [((event.clientX - box.left) * at.ratio - at.x) / at.scale, (at.y - (event.clientY - box.top) * at.ratio) / at.scale];
-  const inside = (ends) => ends.reduce((odd, [px, py], number) => {
-    const [qx, qy] = ends[(number + ends.length - 1) % ends.length];
-    const meets = (py > point[1]) !== (qy > point[1]) && point[0] < (qx - px) * (point[1] - py) / (qy - py) + px;
-    return meets ? !odd : odd;
-  }, false);
+  const x = ((event.clientX - box.left) * at.ratio - at.x) / at.scale;
+  const y = (at.y - (event.clientY - box.top) * at.ratio) / at.scale;
   return rings.get(state.kind).findIndex((tile) => {
     const place = plane.then(shown, tile.place);
-    return inside(tables.kinds[tile.kind].outline.map((corner) => plane.place(place, corner)));
+    const ends = tables.kinds[tile.kind].outline.map((corner) => plane.place(place, corner));
+    return isInside([x, y], ends);
   });
 }
 
@@ -278,7 +298,9 @@ async function start() {
   field("title").textContent = tables.title;
   document.addEventListener("keydown", press);
   field("form").addEventListener("submit", submit);
-  field("words").addEventListener("keydown", (event) => { if (event.key === "Escape") canvas.focus(); });
+  field("words").addEventListener("keydown", (event) => {
+    if (event.key === "Escape") canvas.focus();
+  });
   canvas.addEventListener("click", click);
   window.addEventListener("resize", () => shown && draw(shown));
   canvas.focus();

@@ -41,7 +41,8 @@ export class Plane {
     const [vx, vy] = times(m[2], -m[3], x, y);
     const under = [vx + m[0], vy - m[1]];
     const size = under[0] ** 2 + under[1] ** 2;
-    return [(top[0] * under[0] + top[1] * under[1]) / size, (top[1] * under[0] - top[0] * under[1]) / size];
+    const [x2, y2] = times(top[0], top[1], under[0], -under[1]);
+    return [x2 / size, y2 / size];
   }
 
   // The move that takes the origin to a point without a turn.
@@ -64,7 +65,7 @@ export class Plane {
     return this.then(this.shift([to[0] * share, to[1] * share]), this.turn(part * angle));
   }
 
-  // Centre and radius of the circle in which the line through p and q lies; null where it is straight.
+  // Centre and radius of the circle in which the line through p and q lies; null where straight.
   circle([px, py], [qx, qy]) {
     const cross = 2 * (px * qy - py * qx);
     if (!this.curved || Math.abs(cross) < 1e-6) return null;

@@ -1,4 +1,6 @@
-"""The page's server: on the loopback address alone, and for nobody but who knows the address that it prints."""
+"""The page's server: on the loopback address alone, and for nobody but who knows the address that
+it prints.
+"""
 
 from __future__ import annotations
 
@@ -68,7 +70,9 @@ class Handler(BaseHTTPRequestHandler):
         self._tell(lambda: self.server.world.do(json.loads(asked)))
 
     def _asked(self) -> Tuple[bool, str, Dict[str, Any]]:
-        """Whether the request knows the word and comes to this host, the path behind the word, and what it asks with."""
+        """Whether the request knows the word and comes to this host, the path behind the word, and
+        what it asks with.
+        """
         url = urlsplit(self.path)
         _, _, rest = url.path.partition("/")
         word, _, path = rest.partition("/")

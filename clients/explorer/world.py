@@ -1,8 +1,9 @@
 """What the page shows: a player on a map, the tiles around, and what is written on them.
 
-The tiles around are not asked for at the player's place, where names may be thousands of sides long.
-Around each tile of a kind the tessellation looks alike, so they are those round the root of the tree of that kind,
-whose names are short: each is a walk from the player's tile, and says where to draw the tile.
+The tiles around are not asked for at the player's place, where names may be thousands of sides
+long. Around each tile of a kind the tessellation looks alike, so they are those round the root of
+the tree of that kind, whose names are short: each is a walk from the player's tile, and says where
+to draw the tile.
 """
 
 from __future__ import annotations
@@ -19,7 +20,18 @@ from files import NoShape, shapes_of  # noqa: E402  (the folders stand beside th
 from geometry import Move  # noqa: E402
 from picture import View, in_view  # noqa: E402
 from wagbirelu import (  # noqa: E402
-    Deep, Map, Refusal, Session, WagbireluError, Walker, backwards, lines, sides_of, way_between, way_to)
+    Deep,
+    Map,
+    Refusal,
+    Session,
+    WagbireluError,
+    Walker,
+    backwards,
+    lines,
+    sides_of,
+    way_between,
+    way_to,
+)
 from wagbirelu.program import held  # noqa: E402
 
 __all__ = ["Map", "NoShape", "WagbireluError", "World"]
@@ -38,8 +50,8 @@ ASKED = (lines.get(EYE), lines.same(EYE, START))
 
 
 class Near(NamedTuple):
-    """A tile around: its name in the tree of the kind, where it lies seen from the middle, and whether it is large
-    enough to show a text."""
+    """A tile around: its name in the tree of the kind, where it lies seen from the middle, and
+    whether it is large enough to show a text."""
 
     name: str
     kind: int
@@ -48,7 +60,8 @@ class Near(NamedTuple):
 
 
 class World:
-    """A map with three walkers: the player, an eye that reads the texts around, and one that stands where to go back to.
+    """A map with three walkers: the player, an eye that reads the texts around, and one that stands
+    where to go back to.
 
     >>> with Map("samples/hr.tess", rules="samples/hr.json") as map:
     ...     world = World(map)
@@ -66,16 +79,25 @@ class World:
         self.kinds = found.tessellation.expanded.kinds
         while not all(number in found.walkers for number in (PLAYER, EYE, START)):
             found.walker()
-        self.player, self.eye, self.start = (Walker(found, number) for number in (PLAYER, EYE, START))
+        self.player, self.eye, self.start = (
+            Walker(found, number) for number in (PLAYER, EYE, START)
+        )
         self._near: Dict[int, List[Near]] = {}
         self._tours: Dict[int, Tuple[List[int], bytes]] = {}
 
     # --- what the page asks for ---
 
     def tables(self) -> Dict[str, Any]:
-        """Kinds with what they look like, and the move across each side: all that the page needs to place tiles."""
+        """Kinds with what they look like, and the move across each side: all that the page needs to
+        place tiles.
+        """
         kinds = [self._table(number) for number in range(len(self.kinds))]
-        return {"curved": self.shapes.curved, "scale": self._view().scale, "kinds": kinds, "title": self.title}
+        return {
+            "curved": self.shapes.curved,
+            "scale": self._view().scale,
+            "kinds": kinds,
+            "title": self.title,
+        }
 
     def _table(self, kind: int) -> Dict[str, Any]:
         """The outline of a kind, the direction in which each side lies, and what lies across it."""
@@ -83,7 +105,11 @@ class World:
         table = {"sides": len(sides), "repeat": self.kinds[kind].repeat}
         if kind in self.shapes.corners:  # those that walks from the root meet
             ends = self.shapes.corners[kind]
-            middles = self.shapes.middles[kind] if self.shapes.middles else [ends[side - 1] + ends[side] for side in sides]
+            middles = (
+                self.shapes.middles[kind]
+                if self.shapes.middles
+                else [ends[side - 1] + ends[side] for side in sides]
+            )
             table["outline"] = [pair(z) for z in self.shapes.outline(kind)]
             table["ahead"] = [round(phase(z), 9) for z in middles]
             table["across"] = [move(self.shapes.across[kind][side]) for side in sides]
@@ -95,7 +121,9 @@ class World:
         return [[near.kind, move(near.place)] for near in self.near(kind)]
 
     def do(self, asked: Dict[str, Any]) -> Dict[str, Any]:
-        """Does one thing, and tells the state. What is refused is told as `refused`, and nothing has changed then."""
+        """Does one thing, and tells the state. What is refused is told as `refused`, and nothing
+        has changed then.
+        """
         refused = ""
         try:
             {
@@ -114,16 +142,30 @@ class World:
     def state(self) -> Dict[str, Any]:
         """Where the player is, what is written on the tiles around, and the way back."""
         place, level, text, distance, back = self.map.send(
-            [lines.at(PLAYER), lines.level(PLAYER), lines.get(PLAYER), lines.dist(PLAYER, START), lines.path(PLAYER, START)],
-            keep=True)
+            [
+                lines.at(PLAYER),
+                lines.level(PLAYER),
+                lines.get(PLAYER),
+                lines.dist(PLAYER, START),
+                lines.path(PLAYER, START),
+            ],
+            keep=True,
+        )
         side = self.player.side()
         kind, residue = self.map.tessellation.flat(side)
         texts, start = self._read_around(kind, residue, level)
         return {
-            "name": place.name, "spin": place.spin, "kind": kind, "side": residue, "level": level, "text": text,
+            "name": place.name,
+            "spin": place.spin,
+            "kind": kind,
+            "side": residue,
+            "level": level,
+            "text": text,
             "distance": None if isinstance(distance, Refusal) else distance,
             "back": None if isinstance(back, Refusal) else back[:200],
-            "texts": texts, "start": start, "written": len(self.map.texts),
+            "texts": texts,
+            "start": start,
+            "written": len(self.map.texts),
         }
 
     # --- what it does ---
@@ -152,25 +194,39 @@ class World:
     # --- the tiles around ---
 
     def near(self, kind: int) -> List[Near]:
-        """The tiles round a tile of a kind which are large enough to be drawn, in the order of names."""
+        """The tiles round a tile of a kind which are large enough to be drawn, in the order of
+        names.
+        """
         if kind not in self._near:
             view = self._view()
             least = LEAST * view.scale / 100 if self.shapes.curved else 0.0
             with held(self.map.rules, "rules.json") as rules:
-                with Session(self.map.tessellation, kind, rules, program=self.map.program) as session:
+                with Session(
+                    self.map.tessellation, kind, rules, program=self.map.program
+                ) as session:
                     tiles = in_view(session.ring, self.shapes, view, kind, None, least)
             tiles.sort(key=lambda tile: sides_of(tile.name))
             self._near[kind] = [
-                Near(tile.name, tile.kind, tile.place, view.width(tile.corners(self.shapes)) >= TEXT_LEAST * view.scale / 100
-                     or not self.shapes.curved)
-                for tile in tiles]
+                Near(
+                    tile.name,
+                    tile.kind,
+                    tile.place,
+                    view.width(tile.corners(self.shapes)) >= TEXT_LEAST * view.scale / 100
+                    or not self.shapes.curved,
+                )
+                for tile in tiles
+            ]
         return self._near[kind]
 
     def _view(self) -> View:
         return View.of(self.shapes, 800, across=ACROSS)
 
-    def _read_around(self, kind: int, residue: int, level: int) -> Tuple[Dict[int, str], Optional[int]]:
-        """The texts on the tiles around, by their numbers, and the number of the tile to go back to, if it is there."""
+    def _read_around(
+        self, kind: int, residue: int, level: int
+    ) -> Tuple[Dict[int, str], Optional[int]]:
+        """The texts on the tiles around, by their numbers, and the number of the tile to go back
+        to, if it is there.
+        """
         near = self.near(kind)
         farthest = max(len(sides_of(tile.name)) for tile in near)
         turn = "R" * residue
@@ -188,7 +244,9 @@ class World:
         return texts, starts[0] if starts else None
 
     def _tour(self, kind: int) -> Tuple[List[int], bytes]:
-        """The lines with which the eye goes to all tiles around that can show a text, asks at each, and returns."""
+        """The lines with which the eye goes to all tiles around that can show a text, asks at each,
+        and returns.
+        """
         if kind not in self._tours:
             here, read, sent = "-", [], []
             for number, tile in enumerate(self.near(kind)):

@@ -1,4 +1,6 @@
-"""A headless Chromium that is told what to do through two pipes: no port is opened, and nothing but Python is needed."""
+"""A headless Chromium that is told what to do through two pipes: no port is opened, and nothing but
+Python is needed.
+"""
 
 import base64
 import json
@@ -26,23 +28,51 @@ class Browser:
     def __init__(self, width=1000, height=700):
         self.folder = tempfile.mkdtemp()
         words = [
-            find_chromium(), "--headless=new", "--no-sandbox", "--disable-gpu", "--remote-debugging-pipe", "--no-first-run",
-            "--disable-background-networking", "--disable-component-update", "--disable-sync", "--disable-extensions",
-            "--disable-dev-shm-usage", "--hide-scrollbars", "--force-device-scale-factor=1", f"--window-size={width},{height}",
-            f"--user-data-dir={self.folder}", "about:blank",
+            find_chromium(),
+            "--headless=new",
+            "--no-sandbox",
+            "--disable-gpu",
+            "--remote-debugging-pipe",
+            "--no-first-run",
+            "--disable-background-networking",
+            "--disable-component-update",
+            "--disable-sync",
+            "--disable-extensions",
+            "--disable-dev-shm-usage",
+            "--hide-scrollbars",
+            "--force-device-scale-factor=1",
+            f"--window-size={width},{height}",
+            f"--user-data-dir={self.folder}",
+            "about:blank",
         ]
         hears, self.writes = os.pipe()
         self.reads, says = os.pipe()
         # The browser listens on descriptor 3 and answers on 4.
         self.process = subprocess.Popen(
-            ["sh", "-c", f'exec "$@" 3<&{hears} 4>&{says}', "sh", *words], pass_fds=(hears, says),
-            stdin=subprocess.DEVNULL, stdout=subprocess.DEVNULL, stderr=subprocess.DEVNULL)
+            ["sh", "-c", f'exec "$@" 3<&{hears} 4>&{says}', "sh", *words],
+            pass_fds=(hears, says),
+            stdin=subprocess.DEVNULL,
+            stdout=subprocess.DEVNULL,
+            stderr=subprocess.DEVNULL,
+        )
         os.close(hears)
         os.close(says)
         self.rest, self.number, self.session = b"", 0, None
-        pages = [target for target in self.call("Target.getTargets")["targetInfos"] if target["type"] == "page"]
-        self.session = self.call("Target.attachToTarget", targetId=pages[0]["targetId"], flatten=True)["sessionId"]
-        self.call("Emulation.setDeviceMetricsOverride", width=width, height=height, deviceScaleFactor=1, mobile=False)
+        pages = [
+            target
+            for target in self.call("Target.getTargets")["targetInfos"]
+            if target["type"] == "page"
+        ]
+        self.session = self.call(
+            "Target.attachToTarget", targetId=pages[0]["targetId"], flatten=True
+        )["sessionId"]
+        self.call(
+            "Emulation.setDeviceMetricsOverride",
+            width=width,
+            height=height,
+            deviceScaleFactor=1,
+            mobile=False,
+        )
 
     def call(self, method, **params):
         """Calls a method of the browser's protocol, and gives its result."""
@@ -52,7 +82,7 @@ class Browser:
             message["sessionId"] = self.session
         data = json.dumps(message).encode() + b"\0"
         while data:
-            data = data[os.write(self.writes, data):]
+            data = data[os.write(self.writes, data) :]
         end = time.monotonic() + SECONDS
         while True:
             while b"\0" in self.rest:
@@ -75,7 +105,9 @@ class Browser:
 
     def value(self, expression):
         """The value of an expression on the page."""
-        result = self.call("Runtime.evaluate", expression=expression, returnByValue=True, awaitPromise=True)
+        result = self.call(
+            "Runtime.evaluate", expression=expression, returnByValue=True, awaitPromise=True
+        )
         if "exceptionDetails" in result:
             raise RuntimeError(f"{expression}: {result['exceptionDetails']}")
         return result["result"].get("value")
@@ -92,7 +124,9 @@ class Browser:
         words = {"key": key, "windowsVirtualKeyCode": CODES.get(key, ord(key[0].upper()))}
         if key == "Enter":
             words["text"] = "\r"
-        self.call("Input.dispatchKeyEvent", type="keyDown" if "text" in words else "rawKeyDown", **words)
+        self.call(
+            "Input.dispatchKeyEvent", type="keyDown" if "text" in words else "rawKeyDown", **words
+        )
         self.call("Input.dispatchKeyEvent", type="keyUp", **words)
 
     def write(self, text):
@@ -105,7 +139,9 @@ class Browser:
     def picture(self, x, y, width, height, scale=0.5):
         """The bytes of a PNG file of a part of the page, half as large."""
         clip = {"x": x, "y": y, "width": width, "height": height, "scale": scale}
-        return base64.b64decode(self.call("Page.captureScreenshot", format="png", clip=clip)["data"])
+        return base64.b64decode(
+            self.call("Page.captureScreenshot", format="png", clip=clip)["data"]
+        )
 
     def close(self):
         self.process.kill()

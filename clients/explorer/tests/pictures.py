@@ -5,12 +5,14 @@ import zlib
 
 
 def pixels(data):
-    """Width, height, and the rows of a PNG file of 8 bits a channel: each a bytes of red, green, blue by turns."""
+    """Width, height, and the rows of a PNG file of 8 bits a channel: each a bytes of red, green,
+    blue by turns.
+    """
     assert data[:8] == b"\x89PNG\r\n\x1a\n"
     at, packed = 8, b""
     while at < len(data):
-        length, kind = struct.unpack(">I4s", data[at:at + 8])
-        body = data[at + 8:at + 8 + length]
+        length, kind = struct.unpack(">I4s", data[at : at + 8])
+        body = data[at + 8 : at + 8 + length]
         if kind == b"IHDR":
             width, height, depth, colour, _, _, woven = struct.unpack(">IIBBBBB", body)
             assert depth == 8 and colour in (2, 6) and not woven
@@ -22,8 +24,10 @@ def pixels(data):
     rows, before = [], bytearray(size)
     for number in range(height):
         start = number * (size + 1)
-        row = unfiltered(raw[start], bytearray(raw[start + 1:start + 1 + size]), before, step)
-        rows.append(bytes(row) if step == 3 else bytes(value for at, value in enumerate(row) if at % 4 != 3))
+        row = unfiltered(raw[start], bytearray(raw[start + 1 : start + 1 + size]), before, step)
+        rows.append(
+            bytes(row) if step == 3 else bytes(value for at, value in enumerate(row) if at % 4 != 3)
+        )
         before = row
     return width, height, rows
 
@@ -41,7 +45,11 @@ def unfiltered(how, row, above, step):
             row[at] = row[at] + (left + above[at]) // 2 & 255
         elif how == 4:
             guess = left + above[at] - corner
-            near = min((abs(guess - left), 0, left), (abs(guess - above[at]), 1, above[at]), (abs(guess - corner), 2, corner))
+            near = min(
+                (abs(guess - left), 0, left),
+                (abs(guess - above[at]), 1, above[at]),
+                (abs(guess - corner), 2, corner),
+            )
             row[at] = row[at] + near[2] & 255
     return row
 
@@ -52,13 +60,22 @@ def blocks(data, side=10):
     found = []
     for y in range(0, height - side + 1, side):
         for x in range(0, width - side + 1, side):
-            found.append([
-                sum(sum(row[3 * x + channel:3 * (x + side):3]) for row in rows[y:y + side]) / side**2 for channel in range(3)])
+            found.append(
+                [
+                    sum(
+                        sum(row[3 * x + channel : 3 * (x + side) : 3]) for row in rows[y : y + side]
+                    )
+                    / side**2
+                    for channel in range(3)
+                ]
+            )
     return (width, height), found
 
 
 def difference(one, other):
-    """How far two pictures are from each other: the mean over squares, of 0 to 255. Of other sizes: 255."""
+    """How far two pictures are from each other: the mean over squares, of 0 to 255. Of other sizes:
+    255.
+    """
     (size, first), (other_size, second) = blocks(one), blocks(other)
     if size != other_size:
         return 255.0

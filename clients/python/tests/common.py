@@ -21,9 +21,13 @@ def random_file(source: random.Random) -> str:
         sides = source.choice([3, 4, 4, 5, 6, 6, 8])
         repeat = source.choice([n for n in range(1, sides + 1) if sides % n == 0])
         kinds.append((sides, repeat))
-    rows = [f"tess {version}"] + [f"kind {number} {sides} {repeat}" for number, (sides, repeat) in enumerate(kinds)]
+    rows = [f"tess {version}"] + [
+        f"kind {number} {sides} {repeat}" for number, (sides, repeat) in enumerate(kinds)
+    ]
     free = [(kind, side) for kind, (_, repeat) in enumerate(kinds) for side in range(repeat)]
-    corners = [f"corner {kind} {side} {source.choice([3, 4, 4, 6, 6, 8, 12])}" for kind, side in free]
+    corners = [
+        f"corner {kind} {side} {source.choice([3, 4, 4, 6, 6, 8, 12])}" for kind, side in free
+    ]
     source.shuffle(free)
     while free:
         one = free.pop()
@@ -49,10 +53,14 @@ def spoilt(rows, source):
             rows[at] = rows[at].replace(" ", source.choice(["  ", "\t", " 0", " 3"]), 1)
         elif how == 4:
             words = rows[at].split(" ")
-            words[-1] = source.choice(["0", "2", "7", "64", "65", "255", "256", "0000000003", "000000003", "-1", "+3"])
+            words[-1] = source.choice(
+                ["0", "2", "7", "64", "65", "255", "256", "0000000003", "000000003", "-1", "+3"]
+            )
             rows[at] = " ".join(words)
         else:
-            rows[at] = source.choice(["", "# only a remark", "hop", "tess 1", "kind", "mirror 0 0 0 0"])
+            rows[at] = source.choice(
+                ["", "# only a remark", "hop", "tess 1", "kind", "mirror 0 0 0 0"]
+            )
     return rows
 
 
@@ -74,8 +82,12 @@ def closing(source: random.Random, tess_of):
             valence = next(n for n in range(max(3, base), 200) if n % base == 0)
             for side in corner.cycle:
                 kind = tess.kinds[side.kind]
-                given[side.kind, (side.side - 1) % kind.repeat if side.mirrored else side.side] = valence
-        rows += [f"corner {kind} {side} {valence}" for (kind, side), valence in sorted(given.items())]
+                given[
+                    side.kind, (side.side - 1) % kind.repeat if side.mirrored else side.side
+                ] = valence
+        rows += [
+            f"corner {kind} {side} {valence}" for (kind, side), valence in sorted(given.items())
+        ]
         try:
             tess = tess_of("\n".join(rows) + "\n")
         except Exception:

@@ -12,8 +12,31 @@ from common import sample
 
 import wagbirelu.pipe
 from wagbirelu import (
-    Bad, Deep, Ended, Far, LongText, Map, NoRoom, NoWalker, ProgramMissing, Session, Side, Taken, Tessellation, TooBig, TooLong,
-    TooMany, WagbireluError, backwards, call, learn, lines, name_of, way_between, way_to)
+    Bad,
+    Deep,
+    Ended,
+    Far,
+    LongText,
+    Map,
+    NoRoom,
+    NoWalker,
+    ProgramMissing,
+    Session,
+    Side,
+    Taken,
+    Tessellation,
+    TooBig,
+    TooLong,
+    TooMany,
+    WagbireluError,
+    backwards,
+    call,
+    learn,
+    lines,
+    name_of,
+    way_between,
+    way_to,
+)
 
 HR = {"tess": sample("hr.tess"), "rules": sample("hr.json")}
 P54 = {"tess": sample("p54.tess"), "rules": sample("p54.json")}
@@ -32,8 +55,12 @@ class Lines(unittest.TestCase):
             session.go(0, "XLLLLX")
             session.go(1, "LLX")
             self.assertEqual(session.at(0), ("0.4", 0, 0))
-            self.assertEqual((session.level(0), session.dist(0, 1), session.path(0, 1)), (2, 3, "LLLLXLLLXLLLLX"))
-            self.assertEqual((session.path(0, 0), session.same(0, 1), session.same(0, 0)), ("", False, True))
+            self.assertEqual(
+                (session.level(0), session.dist(0, 1), session.path(0, 1)), (2, 3, "LLLLXLLLXLLLLX")
+            )
+            self.assertEqual(
+                (session.path(0, 0), session.same(0, 1), session.same(0, 0)), ("", False, True)
+            )
             self.assertIsNone(session.get(0))
             session.put(0, "")
             self.assertEqual(session.get(0), "")
@@ -41,19 +68,31 @@ class Lines(unittest.TestCase):
             self.assertEqual(session.get(0), "é text  with spaces ")
             session.put(0, "\udcff\udcfe")
             self.assertEqual(session.get(0), "\udcff\udcfe")
-            self.assertEqual(session.ask("get 0").encode("utf-8", "surrogateescape"), b"text \xff\xfe")
-            self.assertEqual((session.ring(0), session.ring(1), session.count(1)), (["-"], list("01234"), 5))
+            self.assertEqual(
+                session.ask("get 0").encode("utf-8", "surrogateescape"), b"text \xff\xfe"
+            )
+            self.assertEqual(
+                (session.ring(0), session.ring(1), session.count(1)), (["-"], list("01234"), 5)
+            )
             self.assertEqual(len(session.ring(5)), session.count(5))
         self.assertEqual(session.close(), 0)
 
     def test_each_refusal(self):
         with Session(**P54) as session:
             session.new(0)
-            for error, line in ((Taken, lambda: session.new(0)), (NoWalker, lambda: session.at(1)), (Bad, lambda: session.new(64)),
-                                (Bad, lambda: session.go(0, "l")), (LongText, lambda: session.put(0, "x" * 65)),
-                                (Far, lambda: session.count(4001)), (TooBig, lambda: session.count(4000)),
-                                (TooMany, lambda: session.ring(20)), (TooBig, lambda: session.ring(100)),
-                                (Deep, lambda: session.go(0, "LLX" * 4001)), (TooLong, lambda: session.put(0, "x" * 9000))):
+            for error, line in (
+                (Taken, lambda: session.new(0)),
+                (NoWalker, lambda: session.at(1)),
+                (Bad, lambda: session.new(64)),
+                (Bad, lambda: session.go(0, "l")),
+                (LongText, lambda: session.put(0, "x" * 65)),
+                (Far, lambda: session.count(4001)),
+                (TooBig, lambda: session.count(4000)),
+                (TooMany, lambda: session.ring(20)),
+                (TooBig, lambda: session.ring(100)),
+                (Deep, lambda: session.go(0, "LLX" * 4001)),
+                (TooLong, lambda: session.put(0, "x" * 9000)),
+            ):
                 with self.assertRaises(error) as caught:
                     line()
                 self.assertTrue(caught.exception.reply)
@@ -77,11 +116,23 @@ class Lines(unittest.TestCase):
             asked = ["new 0", "ring 2", "hop", "ring 9999", "at 0", "ring 1", "at 7"]
             replies = session.ask_many(asked)
             self.assertEqual(replies[1].count("\n"), session.count(2))
-            self.assertEqual([reply.split("\n")[0] for reply in replies],
-                             ["ok", f"tiles {session.count(2)}", "bad", "far", "at - 0 0", "tiles 5", "no walker"])
+            self.assertEqual(
+                [reply.split("\n")[0] for reply in replies],
+                [
+                    "ok",
+                    f"tiles {session.count(2)}",
+                    "bad",
+                    "far",
+                    "at - 0 0",
+                    "tiles 5",
+                    "no walker",
+                ],
+            )
             with self.assertRaises(NoWalker):
                 session.send([lines.at(9), lines.go(0, "X")])
-            self.assertEqual(session.at(0).name, "0", "the lines behind a refused one were answered")
+            self.assertEqual(
+                session.at(0).name, "0", "the lines behind a refused one were answered"
+            )
 
     def test_large_batches_do_not_stop(self):
         with Session(**HR) as session:
@@ -112,22 +163,30 @@ class Lines(unittest.TestCase):
             with self.assertRaises(Ended) as caught:
                 while True:
                     session.ask_bytes(block, 100)
-            self.assertEqual((caught.exception.status, caught.exception.answer), (15, "input too long"))
+            self.assertEqual(
+                (caught.exception.status, caught.exception.answer), (15, "input too long")
+            )
 
 
 class Ends(unittest.TestCase):
     def test_a_call_that_is_refused(self):
         with tempfile.TemporaryDirectory() as folder:
             path = Path(folder) / "a.tess"
-            for text, status, answer in (("tess 1\nkind 0 5 1\n", 5, "tess line 3"),
-                                         ("tess 1\nkind 0 5 1\njoin 0 0 0 0\ncorner 0 0 3\n", 8, "spherical 5 3")):
+            for text, status, answer in (
+                ("tess 1\nkind 0 5 1\n", 5, "tess line 3"),
+                ("tess 1\nkind 0 5 1\njoin 0 0 0 0\ncorner 0 0 3\n", 8, "spherical 5 3"),
+            ):
                 path.write_text(text)
                 with self.assertRaises(Ended) as caught:
                     Session(path)
-                self.assertEqual((caught.exception.status, caught.exception.answer), (status, answer))
+                self.assertEqual(
+                    (caught.exception.status, caught.exception.answer), (status, answer)
+                )
             self.assertRaises(Ended, Map, path)
         self.assertRaisesRegex(Ended, "status 3: file fault tess", Session, "/no/such/file")
-        self.assertRaisesRegex(Ended, "status 7: broken 1 0 4", Session, sample("bricks.tess"), 0, sample("p54.json"))
+        self.assertRaisesRegex(
+            Ended, "status 7: broken 1 0 4", Session, sample("bricks.tess"), 0, sample("p54.json")
+        )
         self.assertRaises(ProgramMissing, Session, sample("p54.tess"), program="/no/such/program")
 
     def test_why_a_corner_does_not_close(self):
@@ -159,7 +218,9 @@ class Walkers(unittest.TestCase):
             before = walker.place()
             self.assertRaises(Deep, walker.go, "L" * 20_000 + "RRRRRX" + "LLLX" * 4000)
             self.assertEqual(walker.place(), before)
-            self.assertEqual(walker.side(), Side(*reference_side(session.tessellation, deep_walk(3900))))
+            self.assertEqual(
+                walker.side(), Side(*reference_side(session.tessellation, deep_walk(3900)))
+            )
             walker.go_home()
             self.assertEqual(walker.place(), ("-", 0, 0))
             walker.go_to(before.name)
@@ -191,8 +252,10 @@ class Walkers(unittest.TestCase):
                 for spin, place in enumerate(seen.across):
                     probe.go_to(seen.name).go("L" * spin + "X")
                     self.assertEqual(probe.place(), place)
-            self.assertEqual([place.name for place in walker.around()],
-                             [place.name for place in self.one_by_one(walker, len(walker.around()))])
+            self.assertEqual(
+                [place.name for place in walker.around()],
+                [place.name for place in self.one_by_one(walker, len(walker.around()))],
+            )
 
     def one_by_one(self, walker, sides):
         for side in range(sides):
@@ -238,7 +301,8 @@ class Walkers(unittest.TestCase):
                 times.append(time.perf_counter() - start)
             self.assertGreaterEqual(len(view), 200)
             self.assertLess(min(times), 0.005)
-            print(f"a view of {len(view)} tiles: {1000 * min(times):.2f} ms at best, {1000 * sorted(times)[len(times) // 2]:.2f} as a rule")
+            best, rule = 1000 * min(times), 1000 * sorted(times)[len(times) // 2]
+            print(f"a view of {len(view)} tiles: {best:.2f} ms at best, {rule:.2f} as a rule")
 
 
 def reference_side(tess, letters):
@@ -288,9 +352,15 @@ class Maps(unittest.TestCase):
     def test_what_is_sent_in_batches_is_remembered_too(self):
         with Map(**P54) as found:
             found.new(5)
-            self.assertEqual(found.ask_many(["put 5 a", "put 6 b", "go 5 X", "put 5 c", "get 5"]), ["ok", "no walker", "ok", "ok", "text c"])
+            self.assertEqual(
+                found.ask_many(["put 5 a", "put 6 b", "go 5 X", "put 5 c", "get 5"]),
+                ["ok", "no walker", "ok", "ok", "text c"],
+            )
             self.assertEqual(found.ask_bytes(b"go 5 LLX\nput 5 d\nat 5\n", 3)[:2], [b"ok", b"ok"])
-            self.assertEqual({name: text for name, text in found.texts.items() if text in "ac"}, {"-": "a", "0": "c"})
+            self.assertEqual(
+                {name: text for name, text in found.texts.items() if text in "ac"},
+                {"-": "a", "0": "c"},
+            )
             self.assertEqual(found.texts[found.at(5).name], "d")
             self.assertEqual(list(found.walkers), [5])
 
@@ -313,7 +383,9 @@ class Maps(unittest.TestCase):
         with Map(**P54) as found:
             found.walker().put("a")
             found.save(self.path)
-        Path(self.path).write_text(Path(self.path).read_text().replace('{"-": "a"}', '{"0.0": "a"}'))
+        Path(self.path).write_text(
+            Path(self.path).read_text().replace('{"-": "a"}', '{"0.0": "a"}')
+        )
         self.assertRaisesRegex(WagbireluError, "no such tile", Map.load, self.path)
 
 
@@ -325,8 +397,13 @@ class Walks(unittest.TestCase):
             names = session.ring(6)
             for _ in range(100):
                 one, other = source.choice(names), source.choice(names)
-                self.assertEqual(walker.go_home().go(way_to(one)).go(way_between(one, other)).place()[:2], (other, 0))
-                self.assertEqual(walker.go(backwards(way_between(one, other))).place()[:2], (one, 0))
+                self.assertEqual(
+                    walker.go_home().go(way_to(one)).go(way_between(one, other)).place()[:2],
+                    (other, 0),
+                )
+                self.assertEqual(
+                    walker.go(backwards(way_between(one, other))).place()[:2], (one, 0)
+                )
                 self.assertEqual(name_of([int(side) for side in one.split(".")]), one)
 
     def test_calls(self):

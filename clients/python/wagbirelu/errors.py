@@ -1,4 +1,6 @@
-"""What can go wrong, each with a name: a file that is no tessellation, a line that is refused, a program that ends."""
+"""What can go wrong, each with a name: a file that is no tessellation, a line that is refused, a
+program that ends.
+"""
 
 from __future__ import annotations
 
@@ -10,7 +12,9 @@ class WagbireluError(Exception):
 
 
 class TessError(WagbireluError):
-    """A tessellation file that is refused. `answer` is the program's line, as `tess line 4` or `tess corner 0 0`."""
+    """A tessellation file that is refused. `answer` is the program's line, as `tess line 4` or
+    `tess corner 0 0`.
+    """
 
     def __init__(self, answer: str, why: str = "") -> None:
         super().__init__(f"{answer}: {why}" if why else answer)
@@ -42,12 +46,15 @@ STATUSES = {
 
 
 class Ended(WagbireluError):
-    """The program has ended. `status` is its exit status, `answer` the line that it wrote last, or the empty text.
+    """The program has ended. `status` is its exit status, `answer` the line that it wrote last, or
+    the empty text.
 
     `replies` are the replies to the lines of the same call which came before the end.
     """
 
-    def __init__(self, status: int, answer: str = "", why: str = "", replies: "List[bytes] | None" = None) -> None:
+    def __init__(
+        self, status: int, answer: str = "", why: str = "", replies: "List[bytes] | None" = None
+    ) -> None:
         meaning = why or STATUSES.get(status, "")
         parts = [f"status {status}", answer, meaning]
         super().__init__(": ".join(part for part in parts if part))
@@ -57,11 +64,15 @@ class Ended(WagbireluError):
 
 
 class NoRoom(WagbireluError):
-    """The lines would make the input longer than the program reads. Nothing was sent, and the session goes on."""
+    """The lines would make the input longer than the program reads. Nothing was sent, and the
+    session goes on.
+    """
 
 
 class Refusal(WagbireluError):
-    """A line that the program refused, which changed nothing. `reply` is its answer and `line` what was sent."""
+    """A line that the program refused, which changed nothing. `reply` is its answer and `line` what
+    was sent.
+    """
 
     def __init__(self, reply: str, line: str = "") -> None:
         super().__init__(f"{reply!r} to {shown(line)!r}" if line else repr(reply))
@@ -86,7 +97,9 @@ class Taken(Refusal):
 
 
 class Deep(Refusal):
-    """`deep`: the walk would come to a tile over 4,000 crossings from the root, or the two walkers are too far apart."""
+    """`deep`: the walk would come to a tile over 4,000 crossings from the root, or the two walkers
+    are too far apart.
+    """
 
 
 class LongText(Refusal):
@@ -113,7 +126,8 @@ class TooMany(Refusal):
         return int(self.reply.split()[-1])
 
 
-#: The refusals by their words, without the number that may stand behind. A new refusal is a class and a row here.
+#: The refusals by their words, without the number that may stand behind. A new refusal is a class
+#: and a row here.
 REFUSALS: Dict[str, Type[Refusal]] = {
     "bad": Bad,
     "too long": TooLong,

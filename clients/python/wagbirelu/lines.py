@@ -1,5 +1,5 @@
-"""The lines that the program answers, and how their replies are read. A new line of the program is one function here
-(and one method of Session that sends it)."""
+"""The lines that the program answers, and how their replies are read. A new line of the program is
+one function here (and one method of Session that sends it)."""
 
 from __future__ import annotations
 
@@ -7,7 +7,8 @@ from typing import Any, Callable, Generic, List, NamedTuple, Optional, TypeVar
 
 T = TypeVar("T")
 
-#: The lines whose reply is a word and a number, and then so many lines: the line's first word, and the reply's.
+#: The lines whose reply is a word and a number, and then so many lines: the line's first word, and
+#: the reply's.
 COUNTED = {b"ring": b"tiles"}
 
 
@@ -18,7 +19,9 @@ class Line(Generic[T]):
 
     def __init__(self, text: bytes, read: Callable[[List[bytes]], T]) -> None:
         if b"\n" in text or not text or text.endswith(b"\r"):
-            raise ValueError(f"a line has some bytes, no line feed and no carriage return at its end: {text!r}")
+            raise ValueError(
+                f"a line has some bytes, no line feed and no carriage return at its end: {text!r}"
+            )
         self.text = text
         self.read = read
 
@@ -27,8 +30,8 @@ class Line(Generic[T]):
 
 
 class Place(NamedTuple):
-    """Where a walker stands: the name of its tile, the side that it faces, counted leftwards from the side of the
-    parent, and the number of the tile's kind."""
+    """Where a walker stands: the name of its tile, the side that it faces, counted leftwards from
+    the side of the parent, and the number of the tile's kind."""
 
     name: str
     spin: int
@@ -36,11 +39,15 @@ class Place(NamedTuple):
 
 
 class Unreadable(Exception):
-    """A reply that is not of the form of its line. Session turns it into a refusal, or into an end."""
+    """A reply that is not of the form of its line. Session turns it into a refusal, or into an
+    end.
+    """
 
 
 def encoded(text: str) -> bytes:
-    """The bytes of a text as the program gets them. Bytes that are no UTF-8 come and go as lone surrogates."""
+    """The bytes of a text as the program gets them. Bytes that are no UTF-8 come and go as lone
+    surrogates.
+    """
     return text.encode("utf-8", "surrogateescape")
 
 

@@ -1,4 +1,6 @@
-"""A map: a session that remembers what is written, is saved with its tessellation and rules, and comes back."""
+"""A map: a session that remembers what is written, is saved with its tessellation and rules, and
+comes back.
+"""
 
 from __future__ import annotations
 
@@ -25,8 +27,8 @@ SPARE = 2048
 
 
 class Map(Session):
-    """A session whose texts and walkers can be saved. Names belong to a tessellation, its rules and the kind of the root,
-    so all of these are saved too.
+    """A session whose texts and walkers can be saved. Names belong to a tessellation, its rules and
+    the kind of the root, so all of these are saved too.
 
     >>> import os, tempfile
     >>> file = os.path.join(tempfile.mkdtemp(), "hr.map")
@@ -80,13 +82,17 @@ class Map(Session):
 
     @classmethod
     def load(cls, path: PathLike, program: Optional[PathLike] = None) -> "Map":
-        """The map that a file holds. Raises WagbireluError where it holds none, or where a name in it is no tile."""
+        """The map that a file holds. Raises WagbireluError where it holds none, or where a name in
+        it is no tile.
+        """
         try:
             saved = json.loads(Path(path).read_text(encoding="ascii"))
             if saved[MARK] != VERSION:
                 raise WagbireluError(f"{os.fspath(path)}: a map of version {saved[MARK]}")
             tess, rules = Tessellation.parse(saved["tess"]), encoded(saved["rules"])
-            texts, walkers = dict(saved["texts"]), [(int(n), (str(at), int(spin))) for n, at, spin in saved["walkers"]]
+            texts, walkers = dict(saved["texts"]), [
+                (int(n), (str(at), int(spin))) for n, at, spin in saved["walkers"]
+            ]
             kind = int(saved["kind"])
         except (ValueError, KeyError, TypeError) as error:
             raise WagbireluError(f"{os.fspath(path)}: no map: {error!r}") from None
@@ -105,10 +111,15 @@ class Map(Session):
         numbers = sorted(self.walkers)
         replies = super()._raw([b"at %d" % number for number in numbers])
         found = (reply[0].split(b" ") for reply in replies)
-        return [(number, (name.decode(), int(spin))) for number, (_, name, spin, _) in zip(numbers, found)]
+        return [
+            (number, (name.decode(), int(spin)))
+            for number, (_, name, spin, _) in zip(numbers, found)
+        ]
 
     def _bring_back(self, walkers: Iterable[Tuple[int, Tuple[str, int]]]) -> None:
-        """Makes walkers where they were, and writes all texts again, in a session that has only the helper."""
+        """Makes walkers where they were, and writes all texts again, in a session that has only the
+        helper.
+        """
         asked: List[bytes] = []
         for number, (name, spin) in walkers:
             asked.append(b"new %d" % number)
@@ -126,14 +137,20 @@ class Map(Session):
             if line.startswith(b"at "):
                 name = next(names)
                 if reply[0].split(b" ")[1] != name.encode():
-                    raise WagbireluError(f"the map has a text at {name!r}, and its tessellation has no such tile")
+                    raise WagbireluError(
+                        f"the map has a text at {name!r}, and its tessellation has no such tile"
+                    )
             elif reply[0] != b"ok":
-                raise WagbireluError(f"the map does not come back: {decoded(reply[0])!r} to {decoded(line)!r}")
+                raise WagbireluError(
+                    f"the map does not come back: {decoded(reply[0])!r} to {decoded(line)!r}"
+                )
 
     # --- remembering ---
 
     def _raw(self, texts: Sequence[bytes]) -> List[List[bytes]]:
-        """Sends lines, and behind each `put` an `at`, so that the map knows which tile got the text."""
+        """Sends lines, and behind each `put` an `at`, so that the map knows which tile got the
+        text.
+        """
         if not any(text.startswith((b"put ", b"new ")) for text in texts):
             return super()._raw(texts)
         asked: List[bytes] = []
@@ -172,7 +189,9 @@ class Map(Session):
         try:
             places = self._places()
             self.close()
-            with held(self.rules, "rules.json") as rules, held(encoded(self.tessellation.text), "map.tess") as tess:
+            with held(self.rules, "rules.json") as rules, held(
+                encoded(self.tessellation.text), "map.tess"
+            ) as tess:
                 self._start(tess, rules)
             super()._raw([b"new %d" % HELPER])
             self._bring_back(places)

@@ -1,4 +1,6 @@
-"""The program behind a pipe: bytes out, lines back, and no deadlock however many lines are sent at once."""
+"""The program behind a pipe: bytes out, lines back, and no deadlock however many lines are sent at
+once.
+"""
 
 from __future__ import annotations
 
@@ -15,7 +17,9 @@ STREAM_LIMIT = 268_435_456
 
 
 class PipeEnded(Exception):
-    """The program has ended. `lines` are those that were read before, of the ones that were asked for."""
+    """The program has ended. `lines` are those that were read before, of the ones that were asked
+    for.
+    """
 
     def __init__(self, lines: List[bytes]) -> None:
         super().__init__()
@@ -26,7 +30,9 @@ class Pipe:
     """A running program, its input and its output."""
 
     def __init__(self, words: Sequence[str]) -> None:
-        self._process = subprocess.Popen(words, stdin=subprocess.PIPE, stdout=subprocess.PIPE, bufsize=0)
+        self._process = subprocess.Popen(
+            words, stdin=subprocess.PIPE, stdout=subprocess.PIPE, bufsize=0
+        )
         assert self._process.stdin is not None and self._process.stdout is not None
         self._input, self._output = self._process.stdin, self._process.stdout
         self._ready: List[bytes] = []
@@ -45,7 +51,8 @@ class Pipe:
         return STREAM_LIMIT - self.sent
 
     def write(self, data: bytes) -> None:
-        """Sends bytes: at once as many as the pipe takes, and the rest by a thread, so that the replies can be read meanwhile.
+        """Sends bytes: at once as many as the pipe takes, and the rest by a thread, so that the
+        replies can be read meanwhile.
 
         The replies to all that was sent before have to be read, or be read before the next call.
         """

@@ -8,7 +8,7 @@ import subprocess
 import tempfile
 from contextlib import contextmanager
 from pathlib import Path
-from typing import Iterator, Optional, Sequence, Tuple, Union
+from typing import Iterator, List, Optional, Sequence, Tuple, Union
 
 from wagbirelu.errors import Ended, ProgramMissing, TessError
 from wagbirelu.tessellation import Tessellation
@@ -22,8 +22,9 @@ BUILT = Path("crates/walker_cli/out/walker_cli")
 
 
 def find_program(program: Optional[PathLike] = None) -> str:
-    """The path of the program: the one that is named, or that of the variable WALKER_CLI, or `walker_cli` on the path,
-    or the one that this checkout has built. Raises ProgramMissing where there is none.
+    """The path of the program: the one that is named, or that of the variable WALKER_CLI, or
+    `walker_cli` on the path, or the one that this checkout has built. Raises ProgramMissing where
+    there is none.
 
     >>> find_program("/no/such/program")
     Traceback (most recent call last):
@@ -39,7 +40,10 @@ def find_program(program: Optional[PathLike] = None) -> str:
     built = [above / BUILT for above in here.parents if (above / BUILT).is_file()]
     found = shutil.which("walker_cli") or (str(built[0]) if built else None)
     if not found:
-        raise ProgramMissing("there is no walker_cli on the path: build it by `rt run` in crates/walker_cli, or name it in WALKER_CLI")
+        raise ProgramMissing(
+            "there is no walker_cli on the path: "
+            "build it by `rt run` in crates/walker_cli, or name it in WALKER_CLI"
+        )
     return found
 
 
@@ -51,7 +55,8 @@ def call(words: Sequence[PathLike], program: Optional[PathLike] = None) -> Tuple
     >>> call(["hop"])
     (2, 'usage')
     """
-    done = subprocess.run([find_program(program), *map(os.fspath, words)], stdin=subprocess.DEVNULL, stdout=subprocess.PIPE)
+    called = [find_program(program)] + [os.fspath(word) for word in words]
+    done = subprocess.run(called, stdin=subprocess.DEVNULL, stdout=subprocess.PIPE)
     return done.returncode, done.stdout.decode("utf-8", "surrogateescape").rstrip("\n")
 
 
@@ -65,7 +70,8 @@ def learn(tess: Tess, cells: Optional[int] = None, program: Optional[PathLike] =
     """
     with tempfile.TemporaryDirectory() as folder, tess_file(tess) as path:
         out = Path(folder) / "rules.json"
-        words = ["learn", path, "--out", out] + (["--cells", str(cells)] if cells else [])
+        words: List[PathLike] = ["learn", path, "--out", out]
+        words += ["--cells", str(cells)] if cells else []
         status, answer = call(words, program)
         if status != 0:
             raise Ended(status, answer, explained(tess, answer))
@@ -74,7 +80,9 @@ def learn(tess: Tess, cells: Optional[int] = None, program: Optional[PathLike] =
 
 @contextmanager
 def tess_file(tess: Tess) -> Iterator[str]:
-    """The path of a file with a tessellation: its own, or one that is there as long as the block runs."""
+    """The path of a file with a tessellation: its own, or one that is there as long as the block
+    runs.
+    """
     if not isinstance(tess, Tessellation):
         yield os.fspath(tess)
         return

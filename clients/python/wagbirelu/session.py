@@ -45,13 +45,13 @@ class Session:
 
     A call that is refused raises Ended, with the program's status and line:
 
-    >>> Session("samples/hr.tess", kind=2)
+    >>> Session("no_such.tess")
     Traceback (most recent call last):
-    wagbirelu.errors.Ended: status 2: usage: the words are in no form, or K is no kind of the tessellation
+    wagbirelu.errors.Ended: status 3: file fault tess: a file could not be read
 
-    `tess` is the path of a tessellation file or a Tessellation, `rules` the path of a rules file; where it is None the
-    rules are made or learnt, from at most `cells` cells if that is named. The root is a tile of kind `kind`.
-    One thread at a time may call a session.
+    `tess` is the path of a tessellation file or a Tessellation, `rules` the path of a rules file;
+    where it is None the rules are made or learnt, from at most `cells` cells if that is named. The
+    root is a tile of kind `kind`. One thread at a time may call a session.
     """
 
     #: So many walkers `walker` makes.
@@ -96,7 +96,9 @@ class Session:
         self.send_one(line_of.new(walker))
 
     def go(self, walker: int, letters: str) -> None:
-        """Walks letters, however many: a long walk goes in pieces. Raises Deep, and then the walker has not moved."""
+        """Walks letters, however many: a long walk goes in pieces. Raises Deep, and then the walker
+        has not moved.
+        """
         gone: List[str] = []
         for piece in pieces(letters, len(b"go %d " % walker)):
             try:
@@ -120,23 +122,33 @@ class Session:
         return self.send_one(line_of.level(walker))
 
     def dist(self, walker: int, other: int) -> int:
-        """The least number of crossings from the tile of one walker to that of another. Raises Deep."""
+        """The least number of crossings from the tile of one walker to that of another. Raises
+        Deep.
+        """
         return self.send_one(line_of.dist(walker, other))
 
     def path(self, walker: int, other: int) -> str:
-        """The letters of a shortest walk from where a walker stands to the tile of another. Raises Deep."""
+        """The letters of a shortest walk from where a walker stands to the tile of another. Raises
+        Deep.
+        """
         return self.send_one(line_of.path(walker, other))
 
     def put(self, walker: int, text: str) -> None:
-        """Writes a text on the tile of a walker. Raises LongText where it has over 64 bytes in UTF-8."""
+        """Writes a text on the tile of a walker. Raises LongText where it has over 64 bytes in
+        UTF-8.
+        """
         self.send_one(line_of.put(walker, text))
 
     def get(self, walker: int) -> Optional[str]:
-        """The text that was last written on the tile of a walker, by whichever; None where none ever was."""
+        """The text that was last written on the tile of a walker, by whichever; None where none
+        ever was.
+        """
         return self.send_one(line_of.get(walker))
 
     def ring(self, distance: int) -> List[str]:
-        """The names of the tiles at a distance from the root, in their order. Raises Far, TooBig or TooMany."""
+        """The names of the tiles at a distance from the root, in their order. Raises Far, TooBig or
+        TooMany.
+        """
         return self.send_one(line_of.ring(distance))
 
     def count(self, distance: int) -> int:
@@ -152,7 +164,8 @@ class Session:
     def send(self, lines: "Sequence[Line[Any]]", keep: bool = False) -> List[Any]:
         """Sends many lines at once, and gives what each answers, as its method would.
 
-        Raises the first refusal, after all lines were answered; with `keep` refusals stand in the list in place of that.
+        Raises the first refusal, after all lines were answered; with `keep` refusals stand in the
+        list in place of that.
 
         >>> from wagbirelu import lines
         >>> with Session("samples/hr.tess") as session:
@@ -184,10 +197,13 @@ class Session:
     def ask_many(self, lines: Iterable[str]) -> List[str]:
         """Sends many lines at once, and gives a reply for each."""
         asked = [line_of.plain(line) for line in lines]
-        return [line.read(reply) for line, reply in zip(asked, self._raw([line.text for line in asked]))]
+        return [
+            line.read(reply) for line, reply in zip(asked, self._raw([line.text for line in asked]))
+        ]
 
     def ask_bytes(self, data: bytes, count: int) -> List[bytes]:
-        """Sends whole lines as bytes, `count` of them, each with a reply of one line, and gives the replies.
+        """Sends whole lines as bytes, `count` of them, each with a reply of one line, and gives the
+        replies.
 
         This is the fastest way: nothing is looked at. No line may be empty, and none may be `ring`.
         """
@@ -198,7 +214,9 @@ class Session:
     # --- walkers ---
 
     def walker(self) -> "Walker":
-        """A new walker at the root, with a number of its own: one that was let go, or the next that is free."""
+        """A new walker at the root, with a number of its own: one that was let go, or the next that
+        is free.
+        """
         from wagbirelu.walker import Walker
 
         if self._spare:
@@ -228,11 +246,16 @@ class Session:
         if self._pipe is None:
             raise WagbireluError("the session is closed")
         if size > self._pipe.room:
-            raise NoRoom(f"{size} bytes more are past the limit of the input; there is room for {self._pipe.room}")
+            raise NoRoom(
+                f"{size} bytes more are past the limit of the input; "
+                f"there is room for {self._pipe.room}"
+            )
         return self._pipe
 
     def _raw(self, texts: Sequence[bytes]) -> List[List[bytes]]:
-        """Sends lines and reads the reply to each: a list of lines, of one but where the program says how many follow."""
+        """Sends lines and reads the reply to each: a list of lines, of one but where the program
+        says how many follow.
+        """
         data = b"\n".join(texts) + b"\n" if texts else b""
         pipe = self._open(len(data))
         pipe.write(data)
@@ -260,12 +283,16 @@ class Session:
             return line.read(reply)
         except Unreadable:
             said = decoded(reply[0])
-            raise refusal(said, decoded(line.text)) or WagbireluError(f"{line.text!r} was answered {said!r}") from None
+            raise refusal(said, decoded(line.text)) or WagbireluError(
+                f"{line.text!r} was answered {said!r}"
+            ) from None
 
     # --- the end ---
 
     def close(self) -> int:
-        """Ends the program, and gives its status: 0 where all is answered. It may be called again."""
+        """Ends the program, and gives its status: 0 where all is answered. It may be called
+        again.
+        """
         if self._pipe is not None:
             self._status, self._pipe = self._pipe.end(), None
         return self._status
@@ -274,6 +301,9 @@ class Session:
         return self
 
     def __exit__(
-        self, kind: Optional[Type[BaseException]], error: Optional[BaseException], trace: Optional[TracebackType]
+        self,
+        kind: Optional[Type[BaseException]],
+        error: Optional[BaseException],
+        trace: Optional[TracebackType],
     ) -> None:
         self.close()

@@ -1,18 +1,22 @@
-"""Tessellation files of both versions: kinds, sides, joins, corners, types, and why a corner does not close."""
+"""Tessellation files of both versions: kinds, sides, joins, corners, types, and why a corner does
+not close.
+"""
 
 from __future__ import annotations
 
 import os
 from pathlib import Path
-from typing import Dict, Iterator, List, NamedTuple, Optional, Sequence, Tuple, Union
+from typing import Callable, Dict, Iterator, List, NamedTuple, Optional, Sequence, Tuple, Union
 
 from wagbirelu.errors import TessError
 
 
 class Side(NamedTuple):
-    """What a walker sees: the kind of its tile, the residue of the side it faces, and whether the tile is mirrored.
+    """What a walker sees: the kind of its tile, the residue of the side it faces, and whether the
+    tile is mirrored.
 
-    Only files of version 2 have mirrored tiles. Left of side S lies S + 1 in a plain tile, and S - 1 in a mirrored one.
+    Only files of version 2 have mirrored tiles. Left of side S lies S + 1 in a plain tile, and S -
+    1 in a mirrored one.
     """
 
     kind: int
@@ -26,8 +30,8 @@ class Side(NamedTuple):
 class Kind(NamedTuple):
     """A kind of tile. `partner` and `valence` have an entry for each side below the repeat.
 
-    A partner is the side across; it is marked mirrored where the tile across is seen with the other hand.
-    Valence S is the number of tiles round the corner between sides S and S + 1.
+    A partner is the side across; it is marked mirrored where the tile across is seen with the other
+    hand. Valence S is the number of tiles round the corner between sides S and S + 1.
     """
 
     sides: int
@@ -37,10 +41,11 @@ class Kind(NamedTuple):
 
 
 class Corner(NamedTuple):
-    """A corner, walked round by LX: the sides faced, once round, and for each the valence that its tile gives the corner.
+    """A corner, walked round by LX: the sides faced, once round, and for each the valence that its
+    tile gives the corner.
 
-    `sizes` are the numbers of sides of these tiles. The corner closes where all valences are one number, and the
-    cycle leads back after so many tiles, or after a part of so many.
+    `sizes` are the numbers of sides of these tiles. The corner closes where all valences are one
+    number, and the cycle leads back after so many tiles, or after a part of so many.
     """
 
     cycle: Tuple[Side, ...]
@@ -67,7 +72,8 @@ class Corner(NamedTuple):
 
     @property
     def figure(self) -> str:
-        """Its vertex figure, from the tile from which it comes first in order, in either sense; `?` where it does not close.
+        """Its vertex figure, from the tile from which it comes first in order, in either sense; `?`
+        where it does not close.
 
         >>> octagons = Tessellation.read("samples/octagons.tess")
         >>> octagons.corner(0, 0).figure
@@ -81,11 +87,15 @@ class Corner(NamedTuple):
 
     @property
     def why(self) -> str:
-        """What one has to know to mend it: its cycle, its length, and the valences that its tiles give it."""
+        """What one has to know to mend it: its cycle, its length, and the valences that its tiles
+        give it.
+        """
         cycle = " ".join(map(str, self.cycle))
         said = f"going round by LX meets {cycle} and is back after {counted(self.length, 'tile')}"
         if len(set(self.valences)) > 1:
-            given = ", ".join(f"{side} gives {valence}" for side, valence in zip(self.cycle, self.valences))
+            given = ", ".join(
+                f"{side} gives {valence}" for side, valence in zip(self.cycle, self.valences)
+            )
             return f"{said}; its tiles give it different valences: {given}"
         if not self.closes:
             return f"{said}; the valence {self.valence} is no multiple of {self.length}"
@@ -117,10 +127,11 @@ class Tessellation:
     >>> hr.figures()
     ['6.6.7']
 
-    A file whose lines are good but whose corners do not close can be read too, so that one can ask why:
+    A file whose lines are good but whose corners do not close can be read too, so that one can ask
+    why:
 
-    >>> wrong = Tessellation.parse("tess 1\\nkind 0 7 1\\nkind 1 6 2\\njoin 0 0 1 0\\njoin 1 1 1 1\\n"
-    ...     "corner 0 0 3\\ncorner 1 0 4\\ncorner 1 1 3\\n")
+    >>> wrong = Tessellation.parse("tess 1\\nkind 0 7 1\\nkind 1 6 2\\n"
+    ...     "join 0 0 1 0\\njoin 1 1 1 1\\ncorner 0 0 3\\ncorner 1 0 4\\ncorner 1 1 3\\n")
     >>> wrong.fault().answer
     'tess corner 0 0'
     >>> print(wrong.corner(0, 0).why)
@@ -138,12 +149,15 @@ its tiles give it different valences: 0/0 gives 3, 1/0 gives 4, 1/1 gives 3
 
     @classmethod
     def read(cls, path: "Union[str, os.PathLike[str]]") -> "Tessellation":
-        """The tessellation of a file. Raises TessError where a line of it is bad, and OSError where it cannot be read."""
+        """The tessellation of a file. Raises TessError where a line of it is bad, and OSError where
+        it cannot be read.
+        """
         return cls.parse(Path(path).read_bytes())
 
     @classmethod
     def parse(cls, text: Union[str, bytes]) -> "Tessellation":
-        """The tessellation of the text of a file. Raises TessError where a line is bad; `check` tries the rest.
+        """The tessellation of the text of a file. Raises TessError where a line is bad; `check`
+        tries the rest.
 
         >>> Tessellation.parse("tess 1\\nkind 0 5 1\\njoin 0 0 0 0\\n")
         Traceback (most recent call last):
@@ -160,7 +174,8 @@ its tiles give it different valences: 0/0 gives 3, 1/0 gives 4, 1/1 gives 3
         return cls(version, kinds, raw.decode("utf-8", "surrogateescape"))
 
     def canonical(self) -> str:
-        """The canonical text of the tessellation, which is of version 1: of its expansion where the file is of version 2.
+        """The canonical text of the tessellation, which is of version 1: of its expansion where the
+        file is of version 2.
 
         >>> print(Tessellation.read("samples/p54.tess").canonical(), end="")
         tess 1
@@ -173,15 +188,19 @@ its tiles give it different valences: 0/0 gives 3, 1/0 gives 4, 1/1 gives 3
     # --- the checks ---
 
     def fault(self) -> Optional[Fault]:
-        """The first check that fails, as the program finds it, or None where this is a tessellation."""
+        """The first check that fails, as the program finds it, or None where this is a
+        tessellation.
+        """
         for word, why in (("sides", _sides_fault), ("repeat", _repeat_fault)):
             for number, kind in enumerate(self.kinds):
                 if why(kind):
                     return Fault(word, number, 0, why(kind))
         for number, kind in enumerate(self.kinds):
-            for side, valence in enumerate(kind.valence):
+            for residue, valence in enumerate(kind.valence):
                 if not 3 <= valence <= 64:
-                    return Fault("valence", number, side, f"{valence} tiles, and there have to be 3 to 64")
+                    return Fault(
+                        "valence", number, residue, f"{valence} tiles, and there have to be 3 to 64"
+                    )
         for side in self._file_sides():
             back = self.cross(self.cross(side))
             if back != side:
@@ -189,8 +208,12 @@ its tiles give it different valences: 0/0 gives 3, 1/0 gives 4, 1/1 gives 3
         for side in self._file_sides():
             for seen in (side, side._replace(mirrored=True)) if self.version == 2 else (side,):
                 corner = self.corner_at(seen)
-                # As the program has it: the next tile gives the same valence, and so many steps lead back.
-                if corner.valences[1 % corner.length] != corner.valence or corner.valence % corner.length:
+                # As the program has it: the next tile gives the same valence, and so many steps
+                # lead back.
+                if (
+                    corner.valences[1 % corner.length] != corner.valence
+                    or corner.valence % corner.length
+                ):
                     return Fault("corner", side.kind, side.side, corner.why)
         return None
 
@@ -237,15 +260,23 @@ its tiles give it different valences: 0/0 gives 3, 1/0 gives 4, 1/1 gives 3
     def sides(self) -> List[Side]:
         """All sides below their repeats, seen plain, and in version 2 mirrored ones behind them."""
         plain = list(self._file_sides())
-        return plain + [side._replace(mirrored=True) for side in plain] if self.version == 2 else plain
+        return (
+            plain + [side._replace(mirrored=True) for side in plain] if self.version == 2 else plain
+        )
 
     def _file_sides(self) -> Iterator[Side]:
-        return (Side(number, side) for number, kind in enumerate(self.kinds) for side in range(kind.repeat))
+        return (
+            Side(number, side)
+            for number, kind in enumerate(self.kinds)
+            for side in range(kind.repeat)
+        )
 
     # --- corners ---
 
     def corner(self, kind: int, side: int, mirrored: bool = False) -> Corner:
-        """The corner at the left end of a side: between sides S and S + 1, seen from a plain tile."""
+        """The corner at the left end of a side: between sides S and S + 1, seen from a plain
+        tile.
+        """
         return self.corner_at(Side(kind, side % self.kinds[kind].repeat, mirrored))
 
     def corner_at(self, start: Side) -> Corner:
@@ -286,7 +317,8 @@ its tiles give it different valences: 0/0 gives 3, 1/0 gives 4, 1/1 gives 3
 
     @property
     def expanded(self) -> "Tessellation":
-        """The tessellation that the program speaks of: of version 1 and itself, or one with twice the kinds.
+        """The tessellation that the program speaks of: of version 1 and itself, or one with twice
+        the kinds.
 
         Kind 2K is kind K seen plain, and kind 2K + 1 is kind K seen mirrored.
 
@@ -299,14 +331,20 @@ its tiles give it different valences: 0/0 gives 3, 1/0 gives 4, 1/1 gives 3
             kinds = []
             for number, kind in enumerate(self.kinds):
                 for mirrored in (False, True):
-                    seen = [self._file_side(2 * number + mirrored, side) for side in range(kind.repeat)]
+                    seen = [
+                        self._file_side(2 * number + mirrored, side) for side in range(kind.repeat)
+                    ]
                     partners = tuple(Side(*self.flat(self.cross(side))) for side in seen)
-                    kinds.append(Kind(kind.sides, kind.repeat, partners, tuple(map(self.valence, seen))))
+                    kinds.append(
+                        Kind(kind.sides, kind.repeat, partners, tuple(map(self.valence, seen)))
+                    )
             self._expanded = Tessellation(1, kinds)
         return self._expanded
 
     def flat(self, side: Side) -> Tuple[int, int]:
-        """The kind and the residue in the numbers of the program, as `kind` prints them behind `type`."""
+        """The kind and the residue in the numbers of the program, as `kind` prints them behind
+        `type`.
+        """
         if self.version == 1:
             return side.kind, side.side
         residue = -side.side % self.kinds[side.kind].repeat if side.mirrored else side.side
@@ -317,7 +355,9 @@ its tiles give it different valences: 0/0 gives 3, 1/0 gives 4, 1/1 gives 3
         if self.version == 1:
             return Side(kind, residue)
         mirrored = kind % 2 == 1
-        return Side(kind // 2, -residue % self.kinds[kind // 2].repeat if mirrored else residue, mirrored)
+        return Side(
+            kind // 2, -residue % self.kinds[kind // 2].repeat if mirrored else residue, mirrored
+        )
 
     def file_side(self, kind: int, residue: int) -> Side:
         """The side of the file that a kind and a residue of the program are: `flat` backwards.
@@ -332,7 +372,10 @@ its tiles give it different valences: 0/0 gives 3, 1/0 gives 4, 1/1 gives 3
         return self.kinds[kind // 2 if self.version == 2 else kind].sides
 
     def __eq__(self, other: object) -> bool:
-        return isinstance(other, Tessellation) and (self.version, self.kinds) == (other.version, other.kinds)
+        return isinstance(other, Tessellation) and (self.version, self.kinds) == (
+            other.version,
+            other.kinds,
+        )
 
     def __hash__(self) -> int:
         return hash((self.version, self.kinds))
@@ -374,7 +417,9 @@ def _print(version: int, kinds: Sequence[Kind]) -> str:
 
 
 class _Reader:
-    """Reads a file line by line, as the grammar says, and raises TessError with the number of the first bad line."""
+    """Reads a file line by line, as the grammar says, and raises TessError with the number of the
+    first bad line.
+    """
 
     def __init__(self) -> None:
         self.version = 0
@@ -383,23 +428,40 @@ class _Reader:
         self.valence: Dict[Tuple[int, int], int] = {}
 
     def line(self, number: int, raw: bytes) -> None:
-        words = [word for word in raw.split(b"#")[0].replace(b"\t", b" ").replace(b"\r", b" ").split(b" ") if word]
+        words = [
+            word
+            for word in raw.split(b"#")[0].replace(b"\t", b" ").replace(b"\r", b" ").split(b" ")
+            if word
+        ]
         if not words:
             return
         if self.version == 0:
             if words[0] != b"tess" or len(words) != 2 or words[1] not in (b"1", b"2"):
-                why = " (the file begins with a byte order mark)" if words[0].startswith(b"\xef\xbb\xbf") else ""
+                why = (
+                    " (the file begins with a byte order mark)"
+                    if words[0].startswith(b"\xef\xbb\xbf")
+                    else ""
+                )
                 self._bad(number, f"the first line with words has to be `tess 1` or `tess 2`{why}")
             self.version = int(words[1])
             return
-        readers = {b"kind": (3, self._kind), b"join": (4, self._join), b"corner": (3, self._corner)}
+        readers: Dict[bytes, Tuple[int, Callable[..., str]]] = {
+            b"kind": (3, self._kind),
+            b"join": (4, self._join),
+            b"corner": (3, self._corner),
+        }
         if self.version == 2:
             readers[b"mirror"] = (4, self._mirror)
         count, read = readers.get(words[0], (0, self._kind))
         shown = words[0].decode("utf-8", "replace")
         if not count:
             late = words[0] == b"mirror"
-            self._bad(number, "`mirror` stands in files that begin with `tess 2` alone" if late else f"no line begins with `{shown}`")
+            self._bad(
+                number,
+                "`mirror` stands in files that begin with `tess 2` alone"
+                if late
+                else f"no line begins with `{shown}`",
+            )
         if len(words) != count + 1:
             self._bad(number, f"`{shown}` has {count} numbers behind it, and not {len(words) - 1}")
         why = read(*(self._number(number, word) for word in words[1:]))
@@ -414,11 +476,21 @@ class _Reader:
         kinds = []
         for kind, (sides, repeat) in enumerate(self.kinds):
             for side in range(repeat):
-                for what, given in (("join", self.partner), ("corner", self.valence)):
-                    if (kind, side) not in given:
+                for what, known in (
+                    ("join", (kind, side) in self.partner),
+                    ("corner", (kind, side) in self.valence),
+                ):
+                    if not known:
                         self._bad(number, f"side {side} of kind {kind} has no {what}")
             partner = tuple(self.partner[kind, side] for side in range(repeat))
-            kinds.append(Kind(sides, repeat, partner, tuple(self.valence[kind, side] for side in range(repeat))))
+            kinds.append(
+                Kind(
+                    sides,
+                    repeat,
+                    partner,
+                    tuple(self.valence[kind, side] for side in range(repeat)),
+                )
+            )
         return self.version, kinds
 
     def _bad(self, number: int, why: str) -> None:

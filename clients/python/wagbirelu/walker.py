@@ -17,10 +17,11 @@ DEEPEST = 4000
 
 
 class Seen(NamedTuple):
-    """A tile of a view. `way` leads from where the walker stands to it, and comes in through its side of spin `entered`.
+    """A tile of a view. `way` leads from where the walker stands to it, and comes in through its
+    side of spin `entered`.
 
-    `across` has a place for each side of spin 0, 1, 2 ..: the tile across, and the side of it that faces back.
-    It is empty for the tiles at the view's edge, which were not walked round.
+    `across` has a place for each side of spin 0, 1, 2 ..: the tile across, and the side of it that
+    faces back. It is empty for the tiles at the view's edge, which were not walked round.
     None stands for a tile over 4,000 crossings from the root.
     """
 
@@ -44,7 +45,8 @@ class Walker:
     <Walker 1 at Place(name='1', spin=0, kind=1)>
     camp True 1 Place(name='1', spin=0, kind=1)
 
-    In a block `with session.walker() as walker` it is let go at the end, and its number is free again.
+    In a block `with session.walker() as walker` it is let go at the end, and its number is free
+    again.
     """
 
     def __init__(self, session: Session, number: int) -> None:
@@ -69,7 +71,9 @@ class Walker:
         return self.go("X")
 
     def go_to(self, name: str) -> "Walker":
-        """Goes along the tree to the tile of a name, and faces its side of spin 0. The name is one that `at` answered."""
+        """Goes along the tree to the tile of a name, and faces its side of spin 0. The name is one
+        that `at` answered.
+        """
         here = self.place()
         return self.go("R" * here.spin + way_between(here.name, name))
 
@@ -147,7 +151,8 @@ class Walker:
         return list(across[here.spin :] + across[: here.spin])
 
     def look(self, steps: int = 3, tiles: int = 100_000) -> Dict[str, Seen]:
-        """The tiles within some steps, by their names, nearest first, with what lies round each. It does not move.
+        """The tiles within some steps, by their names, nearest first, with what lies round each. It
+        does not move.
 
         With `tiles` it stops walking round more tiles once so many are seen.
 
@@ -167,14 +172,19 @@ class Walker:
         """Walks round the tiles at the edge, all in one call, and gives the new edge."""
         new = []
         counts = [self.session.tessellation.sides_of(seen[name].kind) for name in edge]
-        data = b"".join(self._round(seen[name].way, count, careful) for name, count in zip(edge, counts))
+        data = b"".join(
+            self._round(seen[name].way, count, careful) for name, count in zip(edge, counts)
+        )
         step = 4 if careful else 2
         replies = self.session.ask_bytes(data, sum(step * count + 2 for count in counts))
         start = 1
         for name, count in zip(edge, counts):
-            tile, across = seen[name], []
+            tile = seen[name]
+            across: List[Optional[Place]] = []
             end = start + step * count
-            for side, moved, said in zip(range(count), replies[start:end:step], replies[start + 1 : end : step]):
+            for side, moved, said in zip(
+                range(count), replies[start:end:step], replies[start + 1 : end : step]
+            ):
                 if moved != b"ok":
                     across.append(None)
                     continue
@@ -182,7 +192,9 @@ class Walker:
                 place = Place(other.decode(), int(spin), int(kind))
                 across.append(place)
                 if place.name not in seen:
-                    seen[place.name] = Seen(place.name, place.kind, f"{tile.way}{'L' * side}X", place.spin, ())
+                    seen[place.name] = Seen(
+                        place.name, place.kind, f"{tile.way}{'L' * side}X", place.spin, ()
+                    )
                     new.append(place.name)
             first = -tile.entered % count
             seen[name] = tile._replace(across=tuple(across[first:] + across[:first]))
@@ -195,7 +207,8 @@ class Walker:
         ask = b"\nat %d\n" % self.number
         there, back = (way.encode() or b"-"), (backwards(way).encode() or b"-")
         if careful:
-            # A crossing may be refused; then the same crossing back is refused too, and the walker has not moved.
+            # A crossing may be refused; then the same crossing back is refused too, and the walker
+            # has not moved.
             turns = (head + b"X" + ask + head + b"X\n" + head + b"L\n") * sides
         else:
             turns = head + b"X" + ask + (head + b"XLX" + ask) * (sides - 1)
@@ -212,7 +225,10 @@ class Walker:
         return self
 
     def __exit__(
-        self, kind: Optional[Type[BaseException]], error: Optional[BaseException], trace: Optional[TracebackType]
+        self,
+        kind: Optional[Type[BaseException]],
+        error: Optional[BaseException],
+        trace: Optional[TracebackType],
     ) -> None:
         self.let_go()
 
