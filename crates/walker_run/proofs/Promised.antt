@@ -14,7 +14,7 @@ use Rattle.walker_run.specs.Effects.{End, Says, Opens, Lacks}
 use Rattle.walker_run.specs.Ending.{IsWritten, Ends}
 use Rattle.walker_run.proofs.Unique.{never_both}
 use Rattle.walker_run.proofs.Known.{Known, known}
-use Rattle.walker_run.proofs.TableRows.{exactly, done_row, no_form_row, fault_row, store_row, closed_row, give_up_row, read_row, long_row, memory_row, write_row, served_row, kept_row, unmade_row, stored_row, made_so}
+use Rattle.walker_run.proofs.TableRows.{merges_row, exactly, done_row, no_form_row, fault_row, store_row, closed_row, give_up_row, read_row, long_row, memory_row, write_row, served_row, kept_row, unmade_row, stored_row, made_so}
 use Rattle.walker_run.proofs.StreamRows.{stream_row}
 
 -- the input is left alone where a line is due
@@ -41,6 +41,7 @@ promise agree run ends unread unwritten taken left =
         rules_text = λ told. exactly run lesson ends.end is ends.written told RulesText tt (λ never. never);
         not_accepted = λ told. exactly run lesson ends.end is ends.written told NotAccepted tt (λ never. never);
         spherical = λ told. exactly run lesson ends.end is ends.written told Spherical tt (λ never. never);
+        merges = merges_row run lesson ends.end is ends.written;
         made = made_so run lesson ends.end is ends.written;
         closed = closed_row run lesson ends.end is ends.written;
         gave_up = give_up_row run lesson ends.end is ends.written;

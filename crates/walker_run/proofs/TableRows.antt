@@ -13,13 +13,13 @@ use Rattle.walker_run.specs.declared.line.Line.{Line}
 use Rattle.walker_run.specs.declared.line.Line.TheVariants.{TypeTold, Accepted, Usage, FileFault, FileTooLong, TessLine, TessKinds, RulesSyntax, RulesShape, Broken, Spherical, Closed, GaveUp, StoreFault, InputTooLong}
 use Rattle.walker_run.specs.Runs.{Run, call_of}
 use Rattle.walker_run.specs.Lines.{IsOutside, MayStore, status_of, text_of}
-use Rattle.walker_run.specs.Held.{Lesson}
+use Rattle.walker_run.specs.Held.{Lesson, Refused, IsRules, tess_loaded, rules_loaded}
 use Rattle.walker_run.specs.Due.{CheckRow, check_no_tess, check_no_rules, check_accepted, MergeRow, merge_no_tess, merge_no_rules, merge_accepted, Row, IsDue, by_task, ServesSome, MakesFor, IsToMake, StoresAs, MaySay, due, unread, unstored, Stores, Fetches}
-use Rattle.walker_run.specs.Outcome.{Writes, WritesNothing, ComesExactly, GivesAtOnce}
+use Rattle.walker_run.specs.Outcome.{Writes, WritesNothing, ComesExactly, GivesAtOnce, MergesFiles}
 use Rattle.walker_run.specs.Promise.{BeginsLine, BeginsFault, IsServing, TellsFileFault, TellsStoreFault, TellsClosed, TellsGiveUp, TellsMade, StoresRules}
 use Rattle.walker_run.specs.Effects.{End, Says, Opens, Lacks, MayStoreAt}
 use Rattle.walker_run.specs.Ending.{SaysLine, said, unsaid, unwritten, EndsStream, answered, cut_off, over_limit, broken_off, out_of_memory, IsWritten}
-use Rattle.walker_run.proofs.Unique.{one_line, never_both, row_of}
+use Rattle.walker_run.proofs.Unique.{one_line, never_both, row_of, one_loaded, not_refused_too, one_rules}
 use Rattle.walker_run.proofs.LineKinds.{kind_of, refusal_undone, session_kind, tess_kind, done_accepted, due_no_fault}
 use Rattle.walker_run.proofs.Keeping.{made_row}
 use Rattle.walker_run.proofs.Known.{Known, to_make, not_of_run}
@@ -417,3 +417,39 @@ module _ (run : Run) (lesson : Lesson) where
       }
   made_so (Opens kinds a k) known written told task ask make done = absurd ((known.ready kinds a k refl).0 (not_of_run run.words task ask make))
   made_so Lacks known written told task ask make done = absurd (cc (written.0, done))
+
+  -- where two files can be merged no line is due but that of what is left
+  module _ (m : MergesFiles (call_of run lesson)) where
+    refused_too : (line : Line) → IsRules run.before.contents m.kinds m.rules (Refused line) → ⊥
+    refused_too line refused =
+        let same = one_rules run.before.contents m.kinds m.rules refused (rules_loaded m.rules_bytes m.automaton m.holds_rules m.rules_spelling m.accepted) in
+        absurd (cc same)
+
+    merges_line : {line : Line} → MergeRow run.before.contents m.tess m.rules line → status_of line ≡ Done
+    merges_line (merge_no_tess line is) = absurd (not_refused_too run.before.contents m.tess (tess_loaded m.tess_bytes m.kinds m.holds_tess m.tess_spelling m.valid) is)
+    merges_line (merge_no_rules kinds line is refused) =
+        let same = one_loaded run.before.contents m.tess is (tess_loaded m.tess_bytes m.kinds m.holds_tess m.tess_spelling m.valid) in
+        absurd (refused_too line (subst (λ (ks : List TileKind). IsRules run.before.contents ks m.rules (Refused line)) same refused))
+    merges_line (merge_accepted kinds a merges) = refl
+
+    -- a line whose status is Done or tells of the outside, said or not
+    abbrev EndsSo : Status → Type 0
+    EndsSo status = (status ≡ Done) ⊎ IsOutside status
+
+    so_said : (line : Line) → EndsSo (status_of line) → SaidSo line → EndsSo run.status
+    so_said line ends (said is wrote) = subst EndsSo (sym is) ends
+    so_said line ends (unsaid is kept) = inr (between is tt)
+    so_said line ends (unwritten is part) = inr (between is tt)
+
+    merges_due : (line : Line) → MaySay (call_of run lesson) line → EndsSo (status_of line)
+    merges_due line (due l is_due) = inl (merges_line (row_of (call_of run lesson) (MergeRules m.tess m.rules m.out) m.form is_due))
+    merges_due line (unread role fetches) = inr tt
+    merges_due line (unstored stores) = inr tt
+
+    merges_so : (end : End) → Known run lesson end → IsWritten run end → IsTrue run.files_tell → EndsSo run.status
+    merges_so (Says line) known written told = so_said line (merges_due line (known.reached told)) written.0
+    merges_so (Opens kinds a k) known written told = absurd ((known.ready kinds a k refl).0 (not_of_run run.words (MergeRules m.tess m.rules m.out) m.form tt))
+    merges_so Lacks known written told = inr (between written.0 tt)
+
+  pub merges_row : (end : End) → Known run lesson end → IsWritten run end → IsTrue run.files_tell → MergesFiles (call_of run lesson) → (run.status ≡ Done) ⊎ IsOutside run.status
+  merges_row end known written told m = merges_so m end known written told

@@ -6,13 +6,18 @@ use Rattle.tile_model.specs.Tessellations.{TileKind}
 use Rattle.region_grower.specs.Regions.{RegionState}
 use Rattle.state_learner.specs.Learning.{HasClosed, HasGivenUp}
 use Rattle.state_learner.specs.GiveUps.{GiveUp}
-use Rattle.call_words.specs.Tasks.{Task, TeachesFor}
+use Rattle.tile_model.specs.Validity.{IsValid}
+use Rattle.tree_model.specs.Automata.{TreeAutomaton}
+use Rattle.tree_model.specs.Conditions.{IsAccepted}
+use Rattle.tess_text.specs.Spelling.{IsSpelling}
+use Rattle.rules_file.specs.Spelling.{IsRulesFile}
+use Rattle.call_words.specs.Tasks.{Task, TeachesFor, IsMergeForm}
 use Rattle.walker_run.specs.declared.status.Status.{Status}
 use Rattle.walker_run.specs.declared.status.Status.TheVariants.{Memory, WriteFault}
 use Rattle.walker_run.specs.declared.line.Line.{Line}
 use Rattle.walker_run.specs.Lines.{IsOutside, status_of, text_of}
-use Rattle.walker_run.specs.Runs.{Run, call_of}
-use Rattle.walker_run.specs.Held.{Lesson, Loaded, IsTess}
+use Rattle.walker_run.specs.Runs.{Call, Run, call_of}
+use Rattle.walker_run.specs.Held.{Lesson, Loaded, IsTess, Holds, tess_limit, rules_limit}
 use Rattle.walker_run.specs.Due.{Contents, IsDue}
 
 -- what a run wrote, where its sink tells: exactly this, a beginning of it, or nothing
@@ -50,6 +55,24 @@ pub record ComesExactly (run : Run) (lesson : Lesson) (status : Status) : Type 0
       → IsDue (call_of run lesson) line
       → status_of line ≡ status
       → Gives run status (text_of line)
+
+-- The words are `merge TESS RULES OUT`, both files hold what they should within their limits, and
+-- the automaton meets the twelve conditions.
+pub record MergesFiles (call : Call) : Type 0 where
+  pub tess : List ℕ
+  pub rules : List ℕ
+  pub out : List ℕ
+  pub tess_bytes : List ℕ
+  pub rules_bytes : List ℕ
+  pub kinds : List TileKind
+  pub automaton : TreeAutomaton
+  pub form : IsMergeForm call.words tess rules out
+  pub holds_tess : Holds call.contents tess tess_limit tess_bytes
+  pub holds_rules : Holds call.contents rules rules_limit rules_bytes
+  pub tess_spelling : IsSpelling tess_bytes kinds
+  pub valid : IsValid kinds
+  pub rules_spelling : IsRulesFile rules_bytes automaton
+  pub accepted : IsAccepted kinds automaton
 
 -- The teacher gave up on this tessellation with so many cells: it counted a give-up in this call,
 -- the last one is of this tessellation and so many cells, and these regions show what that means.

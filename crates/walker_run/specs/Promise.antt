@@ -28,7 +28,7 @@ use Rattle.walker_run.specs.Lines.{IsOutside, MayStore, text_of}
 use Rattle.walker_run.specs.Due.{IsDue, Serves, ServesSome, Fetches, Stores, MaySay}
 use Rattle.walker_run.specs.Due.{IsToMake, MakesFor, StoresAs}
 use Rattle.walker_run.specs.Outcome.{Writes, WritesBeginning, WritesNothing, GivesAtOnce}
-use Rattle.walker_run.specs.Outcome.{ComesExactly, IsClosedFor, IsGivenUpFor}
+use Rattle.walker_run.specs.Outcome.{ComesExactly, MergesFiles, IsClosedFor, IsGivenUpFor}
 use Rattle.walker_run.specs.Serving.{OutputStands, LinesStand, RefusalStands, BeginningStands}
 
 -- the statuses that tell of the outside or of memory, where the input is read
@@ -171,6 +171,10 @@ pub record FollowsTable (run : Run) (lesson : Lesson) : Type 0 where
   pub rules_text : IsTrue run.files_tell → ComesExactly run lesson RulesText
   pub not_accepted : IsTrue run.files_tell → ComesExactly run lesson NotAccepted
   pub spherical : IsTrue run.files_tell → ComesExactly run lesson Spherical
+  -- Rules that can be merged are merged, unless the outside or memory fails; `made` says how.
+  pub merges :
+      IsTrue run.files_tell → MergesFiles (call_of run lesson)
+      → (run.status ≡ Done) ⊎ IsOutside run.status
   -- Done of the forms that make rules.
   pub made :
       IsTrue run.files_tell → (task : Task) → Ask run.words task → IsToMake task
