@@ -1,3 +1,4 @@
+pub mod Entries
 pub mod Deciding
 pub mod Refining
 pub mod Searching

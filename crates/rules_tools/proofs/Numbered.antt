@@ -10,8 +10,7 @@ use Rattle.merge_model.specs.Merging.{class_at, number, AreClasses}
 use Rattle.merge_laws.proofs.Copies.{mapped}
 use Rattle.merge_laws.proofs.Numbers.{has_number}
 use Rattle.key_numbers.specs.Numbers.{entry, AreNumbers}
-use Rattle.key_numbers.proofs.Cases.{cases}
-use Rattle.key_numbers.proofs.Sights.{entry_below}
+use Rattle.rules_tools.proofs.Entries.{cases, entry_below}
 use Rattle.rules_tools.specs.Reached.{AreReached, mark_at}
 use Rattle.rules_tools.specs.Keys.{class_of, key_of, listed, class_key}
 use Rattle.rules_tools.specs.Classes.{AreApart, AreStable, AreByKey}

@@ -19,8 +19,8 @@ pub(crate) fn child(a: &Automaton, s: u32, i: usize) -> Option<u32>
     ensures some { IfSome result
         (λ c. slice_index_or (state_at a.now s).rules i Parent ≡ Child c) }
     ensures within { IfSome result (λ _. i < length (state_at a.now s).rules) }
-    ensures none { IfNone result ((c : ℕ) → slice_index_or (state_at a.now s).rules i Parent ≡ Child c
-        → ⊥) }
+    ensures none { IfNone result
+        ((c : ℕ) → slice_index_or (state_at a.now s).rules i Parent ≡ Child c → ⊥) }
 {
     match a.state(s).rules.get(i) {
         Some(Rule::Child(child)) => Some(*child),

@@ -30,7 +30,8 @@ fn halve(above: &mut Vec<Option<u32>>, x: u32, y: u32)
     requires falling { AreFalling above.old.items }
     ensures long { length above.new.items ≡ length above.old.items }
     ensures falling { AreFalling above.new.items }
-    ensures links { (q : List Pair) → AreLinks (IsPair q) above.old.items → AreLinks (IsPair q) above.new.items }
+    ensures links { (q : List Pair) → AreLinks (IsPair q) above.old.items
+        → AreLinks (IsPair q) above.new.items }
     ensures roots { (z : ℕ) → link_at above.old.items z ≡ None → link_at above.new.items z ≡ None }
     ensures count { set_count above.new.items ≡ set_count above.old.items }
     ensures below { y < x }
@@ -46,8 +47,10 @@ pub(crate) fn root(above: &mut Vec<Option<u32>>, x: u32) -> u32
     requires falling { AreFalling above.old.items }
     ensures long { length above.new.items ≡ length above.old.items }
     ensures falling { AreFalling above.new.items }
-    ensures links { (q : List Pair) → AreLinks (IsPair q) above.old.items → AreLinks (IsPair q) above.new.items }
-    ensures linked { (q : List Pair) → AreLinks (IsPair q) above.old.items → Linked (IsPair q) x result }
+    ensures links { (q : List Pair) → AreLinks (IsPair q) above.old.items
+        → AreLinks (IsPair q) above.new.items }
+    ensures linked { (q : List Pair) → AreLinks (IsPair q) above.old.items
+        → Linked (IsPair q) x result }
     ensures roots { (z : ℕ) → link_at above.old.items z ≡ None → link_at above.new.items z ≡ None }
     ensures count { set_count above.new.items ≡ set_count above.old.items }
     ensures root { link_at above.new.items result ≡ None }
@@ -70,7 +73,8 @@ fn hang(above: &mut Vec<Option<u32>>, root: u32, lesser: u32)
     requires falling { AreFalling above.old.items }
     ensures long { length above.new.items ≡ length above.old.items }
     ensures falling { AreFalling above.new.items }
-    ensures links { (q : List Pair) → AreLinks (IsPair q) above.old.items → Linked (IsPair q) root lesser
+    ensures links { (q : List Pair) → AreLinks (IsPair q) above.old.items
+        → Linked (IsPair q) root lesser
         → AreLinks (IsPair q) above.new.items }
     ensures count { set_count above.new.items + 1 ≡ set_count above.old.items }
 {
@@ -84,9 +88,12 @@ pub(crate) fn join(above: &mut Vec<Option<u32>>, x: u32, y: u32) -> bool
     requires falling { AreFalling above.old.items }
     ensures long { length above.new.items ≡ length above.old.items }
     ensures falling { AreFalling above.new.items }
-    ensures one { (q : List Pair) → AreLinks (IsPair q) above.old.items → result ≡ true → Linked (IsPair q) x y }
-    ensures kept { (q : List Pair) → AreLinks (IsPair q) above.old.items → result ≡ true → AreLinks (IsPair q) above.new.items }
-    ensures joined { (q : List Pair) → AreLinks (IsPair q) above.old.items → Linked (IsPair q) x y → AreLinks (IsPair q) above.new.items }
+    ensures one { (q : List Pair) → AreLinks (IsPair q) above.old.items → result ≡ true
+        → Linked (IsPair q) x y }
+    ensures kept { (q : List Pair) → AreLinks (IsPair q) above.old.items → result ≡ true
+        → AreLinks (IsPair q) above.new.items }
+    ensures joined { (q : List Pair) → AreLinks (IsPair q) above.old.items
+        → Linked (IsPair q) x y → AreLinks (IsPair q) above.new.items }
     ensures count { result ≡ false → set_count above.new.items + 1 ≡ set_count above.old.items }
     ensures same_count { result ≡ true → set_count above.new.items ≡ set_count above.old.items }
 {

@@ -1,4 +1,5 @@
-//! Tools for rules: merging the states that no path tells apart, and the path that tells two states apart.
+//! Tools for rules: merging the states that no path tells apart, and the path that tells two states
+//! apart.
 #![tactic(auto)]
 
 mod children;

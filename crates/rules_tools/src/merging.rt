@@ -22,8 +22,8 @@ use std::alloc::{AllocError, Global};
 use structure_check::Rules;
 use tile_kinds::Tessellation;
 
-/// Rules with their states merged, and of each state that the rules had the state that it has become
-/// a part of: None where the tree did not reach it.
+/// Rules with their states merged, and of each state that the rules had the state that it has
+/// become a part of: None where the tree did not reach it.
 #[derive(Debug, Drop)]
 pub struct Merged {
     pub rules: Rules,

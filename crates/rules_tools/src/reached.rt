@@ -29,7 +29,8 @@ fn mark(marks: &mut Vec<bool>, queue: &mut Vec<u32>, s: u32) -> Result<(), Alloc
     ensures search { (kinds : List TileKind) (a : TreeAutomaton)
         → IsSearch kinds a marks.old.items queue.old.items → IsReachable kinds a s
         → OnOk result (IsSearch kinds a marks.new.items queue.new.items) }
-    ensures grows { OnOk result (Grows marks.old.items queue.old.items marks.new.items queue.new.items) }
+    ensures grows { OnOk result
+        (Grows marks.old.items queue.old.items marks.new.items queue.new.items) }
     ensures marked { OnOk result (mark_at marks.new.items s ≡ true) }
 {
     if is_marked(marks, s) {
@@ -74,7 +75,8 @@ fn mark_child(
     ensures search { OnOk result (IsSearch tess.now a.now marks.new.items queue.new.items) }
     ensures grows { OnOk result
         (Grows marks.old.items queue.old.items marks.new.items queue.new.items) }
-    ensures marked { OnOk result ((c : ℕ) → slice_index_or (state_at a.now s).rules i Parent ≡ Child c
+    ensures marked { OnOk result ((c : ℕ)
+        → slice_index_or (state_at a.now s).rules i Parent ≡ Child c
         → mark_at marks.new.items c ≡ true) }
 {
     let Some(child) = child(a, s, i) else {
@@ -95,9 +97,11 @@ fn mark_children(
     requires search { IsSearch tess.now a.now marks.old.items queue.old.items }
     requires reachable { IsReachable tess.now a.now s }
     ensures search { OnOk result (IsSearch tess.now a.now marks.new.items queue.new.items) }
-    ensures grows { OnOk result (Grows marks.old.items queue.old.items marks.new.items queue.new.items) }
+    ensures grows { OnOk result
+        (Grows marks.old.items queue.old.items marks.new.items queue.new.items) }
     ensures marked { OnOk result ((i c : ℕ) → i < length (state_at a.now s).rules
-        → slice_index_or (state_at a.now s).rules i Parent ≡ Child c → mark_at marks.new.items c ≡ true) }
+        → slice_index_or (state_at a.now s).rules i Parent ≡ Child c
+        → mark_at marks.new.items c ≡ true) }
 {
     for i in 0..a.state(s).rules.len() {
         mark_child(marks, queue, tess, a, s, i)?;

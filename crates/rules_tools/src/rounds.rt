@@ -1,4 +1,5 @@
-//! Classes of states by rounds: states are of one class where they have one key by the classes before.
+//! Classes of states by rounds: states are of one class where they have one key by the classes
+//! before.
 ghost use Rattle.std.specs.Prelude.{◌≡◌, ◌≤◌, length, IfOk, List, ℕ};
 ghost use Rattle.tile_model.specs.Tessellations.{TileKind};
 ghost use Rattle.tree_model.specs.Conditions.{IsAccepted};
@@ -33,7 +34,8 @@ pub(crate) fn round(
 pub(crate) fn settle(alloc: Global, a: &Automaton, start: Vec<u32>) -> Result<Vec<u32>, AllocError>
     requires { length a.now.states ≤ 100000 }
     ensures long { IfOk result (λ v. length v.items ≡ length a.now.states) }
-    ensures apart { (kinds : List TileKind) → IsAccepted kinds a.now → AreApart kinds a.now start.items
+    ensures apart { (kinds : List TileKind) → IsAccepted kinds a.now
+        → AreApart kinds a.now start.items
         → IfOk result (λ v. AreApart kinds a.now v.items) }
     ensures stable { (kinds : List TileKind) → IsAccepted kinds a.now
         → IfOk result (λ v. AreStable kinds a.now v.items) }
