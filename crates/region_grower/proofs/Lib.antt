@@ -14,3 +14,4 @@ pub mod Starting
 pub mod Growing
 pub mod Making
 pub mod Level
+pub mod Calls

@@ -5,3 +5,4 @@ pub mod Tiles
 pub mod Regions
 pub mod Passes
 pub mod Answers
+pub mod Calls

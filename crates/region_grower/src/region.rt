@@ -1,11 +1,13 @@
 //! `Region`, and what a call of `grow` answers.
-ghost use Rattle.std.specs.Prelude.{◌≡◌, ℕ, ◌+◌, ◌<◌, ◌≤◌, length, IfOk, IfSome, IfNone, OnOk, OnErr, slice_index};
+ghost use Rattle.std.specs.Prelude.{◌≡◌, ℕ, ◌+◌, ◌<◌, ◌≤◌, List, length, IfOk, IfSome, IfNone, OnOk, OnErr, slice_index};
+ghost use Rattle.tile_model.specs.Tessellations.{TileKind};
 ghost use Rattle.coincidence.specs.Cells.{IsLive, live_count};
 ghost use Rattle.coincidence.specs.Tables.{kind_of};
 ghost use Rattle.coincidence.specs.Joined.{IsTable, IsFirst};
 ghost use Rattle.region_grower.specs.Ways.{IsRadius};
 ghost use Rattle.region_grower.specs.Growth.{HasGrown};
 ghost use Rattle.region_grower.specs.Regions.{RegionState, IsGrown};
+ghost use Rattle.region_grower.specs.Calls.{IsGrownFrom};
 
 use crate::growth::{Answer, advance};
 use coincidence::Joins;
@@ -56,6 +58,7 @@ impl<'t> Region<'t> {
         ensures kind { IfOk result (λ r. kind_of r.table.origins 0 ≡ kind) }
         ensures layers { IfOk result (λ r. r.layers ≡ 0) }
         ensures table { IfOk result (λ r. IsTable r.table) }
+        ensures from { IfOk result (IsGrownFrom t.now kind) }
     {
         let joins = Joins::first(alloc, t, kind)?;
         let mut radii = Vec::new(alloc);
@@ -126,6 +129,8 @@ impl<'t> Region<'t> {
         ensures made { length self.new.table.origins ≤ most }
         ensures layers { OnErr result (self.new.layers ≡ self.old.layers) }
         ensures table { IsTable self.new.table }
+        ensures from { OnOk result ((kinds : List TileKind) (k : ℕ)
+            → IsGrownFrom kinds k self.old → IsGrownFrom kinds k self.new) }
     {
         let within = self.layers;
         match advance(

@@ -4,6 +4,7 @@ use Rattle.std.proofs.lemmas.List.Sums.{sum_by_push}
 use Rattle.tile_model.specs.Tessellations.{TileKind}
 use Rattle.coincidence.specs.Joined.{IsTable, IsFirst}
 use Rattle.region_grower.specs.Regions.{RegionState}
+use Rattle.region_grower.specs.Calls.{IsGrownFrom}
 use Rattle.state_learner.specs.Learning.{EachRegion, IsOpenFrom, made}
 use Rattle.state_learner.specs.Growing.{AreStarted, AreGrowing}
 use Rattle.state_learner.proofs.Lists.{get_push}
@@ -17,20 +18,21 @@ each_push P regions r each new k s is = elim (get_push regions k r s is) [
 ]
 
 -- a region of one cell has a dart that is not joined
-first_open : (tess : List TileKind) (k : ℕ) (r : RegionState) → IsFirst tess k r.table → IsTable r.table → IsOpenFrom tess k r
-first_open tess k r first table = record {
+first_open : (tess : List TileKind) (k : ℕ) (r : RegionState) → IsFirst tess k r.table → IsTable r.table → IsGrownFrom tess k r → IsOpenFrom tess k r
+first_open tess k r first table from = record {
   kinds = first.same_kinds;
   start = first.kind;
+  calls = from;
   opened = (0, record { side = 0; is_dart = record { live = table.first_live; below = omega (arith, table.first_live) }; unjoined = first.unjoined (0, 0) });
 }
 
 -- one more region is started
 pub started_push : (tess : List TileKind) (n : ℕ) (regions : List RegionState) (r : RegionState)
-    → AreStarted tess n regions → IsFirst tess n r.table → IsTable r.table → r.layers ≡ 0
+    → AreStarted tess n regions → IsFirst tess n r.table → IsTable r.table → IsGrownFrom tess n r → r.layers ≡ 0
     → AreStarted tess (n + 1) (regions ++ r ∷ [])
-started_push tess n regions r started first table none = record {
+started_push tess n regions r started first table from none = record {
   count = omega (arith, length-append regions (r ∷ []), started.count);
-  each = each_push (IsOpenFrom tess) regions r started.each (subst (λ k. IsOpenFrom tess k r) (sym started.count) (first_open tess n r first table));
+  each = each_push (IsOpenFrom tess) regions r started.each (subst (λ k. IsOpenFrom tess k r) (sym started.count) (first_open tess n r first table from));
   cells = omega (arith, sum_by_push made regions r, started.cells, first.count);
   layers = each_push (λ _ s. s.layers ≡ 0) regions r started.layers none;
 }

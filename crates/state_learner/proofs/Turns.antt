@@ -11,6 +11,7 @@ use Rattle.coincidence.specs.Joined.{IsTable}
 use Rattle.region_grower.specs.Ways.{HasOpen}
 use Rattle.region_grower.specs.Tiles.{HasTiles}
 use Rattle.region_grower.specs.Regions.{RegionState}
+use Rattle.region_grower.specs.Calls.{IsGrownFrom}
 use Rattle.state_learner.specs.Learning.{EachRegion, IsOpenFrom, made}
 use Rattle.state_learner.specs.Growing.{AreGrowing, AreSpent, HasTilesOf}
 use Rattle.state_learner.proofs.Lists.{get_set, part_at_most, ones_at_most}
@@ -42,6 +43,7 @@ module _ (tess : List TileKind) (budget left left' layers i : ℕ) (regions : Li
     (growing : AreGrowing tess budget left layers i regions) (there : slice_get regions i ≡ Some before)
     (kinds : after.table.kinds ≡ before.table.kinds)
     (start : kind_of after.table.origins 0 ≡ kind_of before.table.origins 0)
+    (from : (ks : List TileKind) (k : ℕ) → IsGrownFrom ks k before → IsGrownFrom ks k after)
     (cells : left' + made after ≡ left + made before) where
   inside : i < length regions
   inside = slice_get_within regions i before there
@@ -50,6 +52,7 @@ module _ (tess : List TileKind) (budget left left' layers i : ℕ) (regions : Li
   still_open opened = record {
     kinds = kinds ∙ (growing.each i before there).kinds;
     start = start ∙ (growing.each i before there).start;
+    calls = from tess i (growing.each i before there).calls;
     opened = opened;
   }
 

@@ -5,6 +5,7 @@ use Rattle.coincidence.specs.Tables.{kind_of}
 use Rattle.region_grower.specs.Ways.{HasOpen}
 use Rattle.region_grower.specs.Tiles.{HasTiles}
 use Rattle.region_grower.specs.Regions.{RegionState}
+use Rattle.region_grower.specs.Calls.{IsGrownFrom}
 use Rattle.tree_model.specs.Automata.{TreeAutomaton}
 use Rattle.tree_model.specs.Conditions.{IsAccepted}
 use Rattle.structure_check.specs.Rules.{TreeRules, AreSound}
@@ -43,11 +44,12 @@ made r = length r.table.origins
 abbrev pub EachRegion : List RegionState → (ℕ → RegionState → Type 0) → Type 0
 EachRegion regions P = (k : ℕ) (r : RegionState) → slice_get regions k ≡ Some r → P k r
 
--- A region of the tessellation was started at a tile of kind k, and some dart of a live cell of it
--- is not joined.
+-- A region of the tessellation was started at a tile of kind k and is what calls of `grow` made of
+-- it, and some dart of a live cell of it is not joined.
 pub record IsOpenFrom (tess : List TileKind) (k : ℕ) (r : RegionState) : Type 0 where
   pub kinds : r.table.kinds ≡ tess
   pub start : kind_of r.table.origins 0 ≡ k
+  pub calls : IsGrownFrom tess k r
   pub opened : (c : ℕ) × HasOpen r.table c
 
 -- No candidate over the regions, to a horizon of at most h, meets the twelve conditions.

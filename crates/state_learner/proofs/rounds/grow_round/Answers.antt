@@ -16,7 +16,7 @@ returns-in-Full c = λ tess budget layers growing.
     let full = subst (IsGrown before c.grow.new.self most) c.in-Full.is c.in_ok-grown.ensures.grown in
     let cells : (most - c.made-in-loop-region.result) + made c.grow.new.self ≡ c.loop-region.left + made before = omega (arith, c.made.ensures, c.made-in-loop-region.ensures, c.grow.ensures.made) in
     has_stopped tess budget c.loop-region.left (most - c.made-in-loop-region.result) layers i c.loop-region.regions before c.grow.new.self
-    (c.loop-region.invariant.growing tess budget layers growing) there c.in_ok-grown.ensures.kinds c.in_ok-grown.ensures.start cells
+    (c.loop-region.invariant.growing tess budget layers growing) there c.in_ok-grown.ensures.kinds c.in_ok-grown.ensures.start c.in_ok-grown.ensures.from cells
     (full.near.cell, full.near.opened) full.layers (omega (arith, c.made-in-loop-region.ensures, full.made))
 
 pub returns-in-Closed : goal.returns-in-Closed
@@ -28,7 +28,7 @@ returns-in-Closed c = λ tess budget layers growing.
     let closed = subst (IsGrown before c.grow.new.self most) c.in-Closed.is c.in_ok-grown.ensures.grown in
     let cells : (most - c.made-in-loop-region.result) + made c.grow.new.self ≡ c.loop-region.left + made before = omega (arith, c.made.ensures, c.made-in-loop-region.ensures, c.grow.ensures.made) in
     has_closed tess budget c.loop-region.left (most - c.made-in-loop-region.result) layers i c.loop-region.regions before c.grow.new.self
-    (c.loop-region.invariant.growing tess budget layers growing) there c.in_ok-grown.ensures.kinds c.in_ok-grown.ensures.start cells
+    (c.loop-region.invariant.growing tess budget layers growing) there c.in_ok-grown.ensures.kinds c.in_ok-grown.ensures.start c.in_ok-grown.ensures.from cells
     c.in-Closed.tiles closed.tiles
 
 pub loop-region-preserved : goal.loop-region-preserved
@@ -43,11 +43,11 @@ loop-region-preserved c =
       room = omega (arith, cells_kept c.loop-region.regions i c.loop-region.left (most - c.made-in-loop-region.result) before c.grow.new.self there cells, c.loop-region.invariant.room);
       growing = λ tess budget layers growing.
           has_turned tess budget c.loop-region.left (most - c.made-in-loop-region.result) layers i c.loop-region.regions before c.grow.new.self
-          (c.loop-region.invariant.growing tess budget layers growing) there c.in_ok-grown.ensures.kinds c.in_ok-grown.ensures.start cells
+          (c.loop-region.invariant.growing tess budget layers growing) there c.in_ok-grown.ensures.kinds c.in_ok-grown.ensures.start c.in_ok-grown.ensures.from cells
           layer.opened (omega (arith, layer.layers, layer.number));
       below = λ tess budget layers growing _.
           layers_within tess budget c.loop-region.left (most - c.made-in-loop-region.result) layers i c.loop-region.regions before c.grow.new.self
-          (c.loop-region.invariant.growing tess budget layers growing) there c.in_ok-grown.ensures.kinds c.in_ok-grown.ensures.start cells
+          (c.loop-region.invariant.growing tess budget layers growing) there c.in_ok-grown.ensures.kinds c.in_ok-grown.ensures.start c.in_ok-grown.ensures.from cells
           (omega (arith, layer.layers, layer.number)) (omega (arith, layer.layers, layer.below)) c.in_ok-grown.ensures.table;
     }
 
