@@ -51,102 +51,104 @@ fn moves_between_types(rt: HostRuntime) -> Result<(), Fail> {
     Ok(())
 }
 
+/// Sides, repeat, partners and valences of a hexagon's place, and the fault that is found first.
+const REFUSED: [(u8, u8, [(u8, u8); 2], [u8; 2], KindFault); 9] = [
+    (
+        2,
+        2,
+        [(0, 0), (1, 1)],
+        [3, 3],
+        KindFault::Sides {
+            kind: 1,
+            residue: 0,
+        },
+    ),
+    (
+        65,
+        2,
+        [(0, 0), (1, 1)],
+        [3, 3],
+        KindFault::Sides {
+            kind: 1,
+            residue: 0,
+        },
+    ),
+    (
+        6,
+        4,
+        [(0, 0), (1, 1)],
+        [3, 3],
+        KindFault::Repeat {
+            kind: 1,
+            residue: 0,
+        },
+    ),
+    (
+        6,
+        3,
+        [(0, 0), (1, 1)],
+        [3, 3],
+        KindFault::Repeat {
+            kind: 1,
+            residue: 0,
+        },
+    ),
+    (
+        6,
+        2,
+        [(0, 0), (2, 0)],
+        [2, 3],
+        KindFault::Partner {
+            kind: 1,
+            residue: 1,
+        },
+    ),
+    (
+        6,
+        2,
+        [(1, 1), (1, 1)],
+        [3, 65],
+        KindFault::Valence {
+            kind: 1,
+            residue: 1,
+        },
+    ),
+    (
+        6,
+        2,
+        [(1, 1), (1, 1)],
+        [3, 4],
+        KindFault::Involution {
+            kind: 0,
+            residue: 0,
+        },
+    ),
+    (
+        6,
+        2,
+        [(0, 0), (1, 1)],
+        [3, 4],
+        KindFault::Corner {
+            kind: 1,
+            residue: 0,
+        },
+    ),
+    (
+        6,
+        2,
+        [(0, 0), (1, 1)],
+        [4, 4],
+        KindFault::Corner {
+            kind: 0,
+            residue: 0,
+        },
+    ),
+];
+
 #[test]
 fn answers_the_first_fault(rt: HostRuntime) -> Result<(), Fail> {
     let alloc = rt.alloc();
-    let cases = [
-        (
-            2,
-            2,
-            [(0, 0), (1, 1)],
-            [3, 3],
-            KindFault::Sides {
-                kind: 1,
-                residue: 0,
-            },
-        ),
-        (
-            65,
-            2,
-            [(0, 0), (1, 1)],
-            [3, 3],
-            KindFault::Sides {
-                kind: 1,
-                residue: 0,
-            },
-        ),
-        (
-            6,
-            4,
-            [(0, 0), (1, 1)],
-            [3, 3],
-            KindFault::Repeat {
-                kind: 1,
-                residue: 0,
-            },
-        ),
-        (
-            6,
-            3,
-            [(0, 0), (1, 1)],
-            [3, 3],
-            KindFault::Repeat {
-                kind: 1,
-                residue: 0,
-            },
-        ),
-        (
-            6,
-            2,
-            [(0, 0), (2, 0)],
-            [2, 3],
-            KindFault::Partner {
-                kind: 1,
-                residue: 1,
-            },
-        ),
-        (
-            6,
-            2,
-            [(1, 1), (1, 1)],
-            [3, 65],
-            KindFault::Valence {
-                kind: 1,
-                residue: 1,
-            },
-        ),
-        (
-            6,
-            2,
-            [(1, 1), (1, 1)],
-            [3, 4],
-            KindFault::Involution {
-                kind: 0,
-                residue: 0,
-            },
-        ),
-        (
-            6,
-            2,
-            [(0, 0), (1, 1)],
-            [3, 4],
-            KindFault::Corner {
-                kind: 1,
-                residue: 0,
-            },
-        ),
-        (
-            6,
-            2,
-            [(0, 0), (1, 1)],
-            [4, 4],
-            KindFault::Corner {
-                kind: 0,
-                residue: 0,
-            },
-        ),
-    ];
-    for (sides, repeat, partner, valence, want) in cases {
+    for (sides, repeat, partner, valence, want) in REFUSED {
         let hexagon = kind(alloc, sides, repeat, &partner, &valence)?;
         let Err((kinds, fault)) = Tessellation::make(heptagons_and(alloc, hexagon)?) else {
             panic!(rt; "accepted in place of {want:?}");

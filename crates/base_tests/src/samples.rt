@@ -2,7 +2,7 @@
 use std::alloc::{AllocError, Global};
 use tile_kinds::Kind;
 
-pub fn kind(
+pub(crate) fn kind(
     alloc: Global,
     sides: u8,
     repeat: u8,
@@ -18,7 +18,7 @@ pub fn kind(
 }
 
 /// Heptagons and hexagons, three tiles round each corner, with the hexagon given.
-pub fn heptagons_and(alloc: Global, hexagon: Kind) -> Result<Vec<Kind>, AllocError> {
+pub(crate) fn heptagons_and(alloc: Global, hexagon: Kind) -> Result<Vec<Kind>, AllocError> {
     let mut kinds = Vec::new(alloc);
     kinds.push(kind(alloc, 7, 1, &[(1, 0)], &[3])?)?;
     kinds.push(hexagon)?;
