@@ -2,7 +2,7 @@
 use std::alloc::{AllocError, Global};
 use tile_kinds::Kind;
 
-pub fn kind(
+pub(crate) fn kind(
     alloc: Global,
     sides: u8,
     repeat: u8,
@@ -18,13 +18,13 @@ pub fn kind(
 }
 
 /// Tiles with p sides, q round each corner.
-pub fn regular(alloc: Global, p: u8, q: u8) -> Result<Vec<Kind>, AllocError> {
+pub(crate) fn regular(alloc: Global, p: u8, q: u8) -> Result<Vec<Kind>, AllocError> {
     Ok(vec![in alloc; kind(alloc, p, 1, &[(0, 0)], &[q])?]?)
 }
 
 /// The corners of a regular tessellation cut off: tiles with q sides and with twice p sides, three
 /// round each corner. Heptagons and hexagons are those of 3 and 7.
-pub fn truncated(alloc: Global, p: u8, q: u8) -> Result<Vec<Kind>, AllocError> {
+pub(crate) fn truncated(alloc: Global, p: u8, q: u8) -> Result<Vec<Kind>, AllocError> {
     let mut kinds = vec![in alloc; kind(alloc, q, 1, &[(1, 0)], &[3])?]?;
     kinds.push(kind(alloc, 2 * (p % 32), 2, &[(0, 0), (1, 1)], &[3, 3])?)?;
     Ok(kinds)
