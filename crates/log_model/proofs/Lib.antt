@@ -1,1 +1,3 @@
 pub mod Changes
+pub mod Leading
+pub mod Texts
