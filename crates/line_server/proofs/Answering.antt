@@ -2,8 +2,7 @@
 use Rattle.std.proofs.Common.{◌≡◌, ◌↔◌, ◌⊎◌, inl, inr, ℕ, ◌<◌, ◌≤◌, Bool, true, false, IsTrue, List, [], ◌∷◌, ◌++◌, length, refl, sym, ◌∙◌, subst, arith}
 use Rattle.std.proofs.lemmas.Bool.{false≢true, cases_lt}
 use Rattle.std.proofs.lemmas.List.{length-append, append-nil}
-use Rattle.std.specs.Prelude.{Option, Result, Ok, Err, OnOk, OnErr}
-use Rattle.ring_listing.specs.Rings.{Listing}
+use Rattle.std.specs.Prelude.{Option, None, Some, Result, Ok, Err, OnOk, OnErr}
 use Rattle.reply_model.specs.declared.Command.{Command}
 use Rattle.reply_model.specs.declared.Command.TheVariants.{New, Go, At, Same, Level, Dist, Path}
 use Rattle.reply_model.specs.declared.Command.TheVariants.{Put, Get, Ring, Count}
@@ -15,11 +14,12 @@ use Rattle.command_text.specs.Replies.{reply_text}
 use Rattle.session_core.specs.Sessions.{SessionState, HasNumbers, AreReadAlike}
 use Rattle.session_core.specs.Answered.{HasAnswered}
 use Rattle.reply_model.specs.Histories.{History, most_walkers}
-use Rattle.line_server.specs.Answering.{AreBehind, name_lines}
+use Rattle.reply_model.specs.declared.Reply.TheVariants.{Tiles}
+use Rattle.line_server.specs.Answering.{AreBehind, listed, not_listed, name_lines}
 use Rattle.line_server.specs.Outputs.{IsAnswered, replied}
 use Rattle.line_server.specs.Outboxes.{HasSaid, HasBroken}
 use Rattle.line_server.specs.Sessions.{answering_of, AnswersLine}
-use Rattle.line_server.specs.Readers.{AreDropped, IsTextBehind, IsMeasured, HasAnsweredLine, names_of, HasReplied, HasFailed, nothing, partly}
+use Rattle.line_server.specs.Readers.{AreDropped, IsTextBehind, IsMeasured, HasAnsweredLine, AreNames, of_none, of_ring, HasReplied, HasFailed, nothing, partly}
 use Rattle.line_server.proofs.Listing.{text_said}
 use Rattle.line_server.proofs.Saying.{says_then, says_waiting, breaks_none, breaks_then}
 
@@ -77,35 +77,54 @@ stays :
 stays s line text answer said =
     record { rules = refl; kind = refl; stands = λ before stands. (before, said before, stands) }
 
+-- without a ring no names follow
+no_names : (s : SessionState) {o : Option ℕ} (names : List (List ℕ)) → o ≡ None → AreNames s o names → names ≡ []
+no_names s names is of_none = refl
+no_names s names is (of_ring d listing ok ring) = absurd (cc is)
+
+-- the names of the ring of a number are behind the reply that lists it, and none behind another
+pub names_listed : (s : SessionState) (d size : ℕ) {o : Option ℕ} (names : List (List ℕ)) → o ≡ Some d → AreNames s o names → AreBehind s (Tiles d size) names
+names_listed s d size names is of_none = absurd (cc is)
+names_listed s d size names is (of_ring e listing ok ring) =
+    let same : e ≡ d = cc is in
+    subst (λ (n : ℕ). AreBehind s (Tiles n size) listing) same (listed e size listing ok ring)
+
+pub names_unlisted : (s : SessionState) (x : Reply) {o : Option ℕ} (names : List (List ℕ)) → ((d size : ℕ) → x ≡ Tiles d size → ⊥) → o ≡ None → AreNames s o names → AreBehind s x names
+names_unlisted s x names other is named =
+    subst (λ (ns : List (List ℕ)). AreBehind s x ns) (sym (no_names s names is named)) (not_listed x other)
+
 -- an answer that changes nothing
 pub answers_so :
     (s : SessionState) (line text waiting front waiting' : List ℕ)
     → ((h : History) → IsAnswered (answering_of s) h line text front h)
-    → waiting' ≡ waiting ++ front → HasAnsweredLine s line text waiting s waiting' []
+    → waiting' ≡ waiting ++ front → HasAnsweredLine s line text waiting s waiting' None
 answers_so s line text waiting front waiting' told e = record {
   front = front;
   waits = e;
-  session =
-      stays s line text (front ++ [])
-      (λ h. subst (λ l. IsAnswered (answering_of s) h line text l h) (sym (append-nil front)) (told h));
+  session = λ names named.
+      let none = no_names s names refl named in
+      subst (λ (ns : List (List ℕ)). AnswersLine s s line text (front ++ name_lines ns)) (sym none)
+      (stays s line text (front ++ [])
+      (λ h. subst (λ l. IsAnswered (answering_of s) h line text l h) (sym (append-nil front)) (told h)));
 }
 
 -- the session answered a command, and the line of its reply waits
 pub answers_command :
     (old new : SessionState) (line text waiting waiting' : List ℕ) (c : Command) (x : Reply)
-    (names : List (List ℕ)) → length line ≤ most_of_line → IsSpelling text c → AreReadAlike old
-    → AreReadAlike new → HasAnswered old c x new → AreBehind new x names
-    → waiting' ≡ waiting ++ reply_text x → HasAnsweredLine old line text waiting new waiting' names
-answers_command old new line text waiting waiting' c x names short spelt was is answered behind e = record {
+    (ring : Option ℕ) → length line ≤ most_of_line → IsSpelling text c → AreReadAlike old
+    → AreReadAlike new → HasAnswered old c x new
+    → ((names : List (List ℕ)) → AreNames new ring names → AreBehind new x names)
+    → waiting' ≡ waiting ++ reply_text x → HasAnsweredLine old line text waiting new waiting' ring
+answers_command old new line text waiting waiting' c x ring short spelt was is answered behind e = record {
   front = reply_text x;
   waits = e;
-  session = record {
+  session = λ names named. record {
     rules = answered.rules;
     kind = answered.kind;
     stands = λ h here.
         let before = (was.stands h).0 here in
         let due = (was.due h c x).1 (answered.due h before) in
-        let said = text_said old new answered.rules answered.kind h c behind due in (
+        let said = text_said old new answered.rules answered.kind h c (behind names named) due in (
           h ++ (c, x) ∷ [],
           replied short c x (reply_text x ++ name_lines names) spelt due said,
           (is.stands (h ++ (c, x) ∷ [])).1 (answered.stands h before),
@@ -113,18 +132,19 @@ answers_command old new line text waiting waiting' c x names short spelt was is 
   };
 }
 
--- the names that follow, as they are known now
+-- the ring that follows, as it is known now
 pub now_named :
-    (old new : SessionState) (line text waiting waiting' : List ℕ) (o p : Option Listing) → o ≡ p
-    → HasAnsweredLine old line text waiting new waiting' (names_of o)
-    → HasAnsweredLine old line text waiting new waiting' (names_of p)
+    (old new : SessionState) (line text waiting waiting' : List ℕ) (o p : Option ℕ) → o ≡ p
+    → HasAnsweredLine old line text waiting new waiting' o
+    → HasAnsweredLine old line text waiting new waiting' p
 now_named old new line text waiting waiting' o p e a =
-    subst (λ q. HasAnsweredLine old line text waiting new waiting' (names_of q)) e a
+    subst (λ q. HasAnsweredLine old line text waiting new waiting' q) e a
 
 -- An answer waits, and is passed on with the names that follow it.
 module _
     (tells : Bool) (old new : SessionState) (line text taken waiting waiting' : List ℕ)
-    (names : List (List ℕ)) (a : HasAnsweredLine old line text waiting new waiting' names)
+    (ring : Option ℕ) (a : HasAnsweredLine old line text waiting new waiting' ring)
+    (names : List (List ℕ)) (named : AreNames new ring names)
   where
     abbrev answer : List ℕ
     answer = a.front ++ name_lines names
@@ -138,14 +158,14 @@ module _
       said =
           says_then tells taken waiting a.front taken waiting' (name_lines names) taken' waiting''
           (says_waiting tells taken waiting a.front waiting' a.waits) said;
-      session = a.session;
+      session = a.session names named;
     }
 
     pub breaks :
         (taken' : List ℕ) → HasBroken tells taken waiting' (name_lines names) taken'
         → HasFailed tells old line text taken waiting taken'
     breaks taken' broken =
-        partly answer (λ h here. let it = a.session.stands h here in (it.0, it.1))
+        partly answer (λ h here. let it = (a.session names named).stands h here in (it.0, it.1))
         (breaks_then tells taken waiting a.front taken waiting' (name_lines names) taken'
         (says_waiting tells taken waiting a.front waiting' a.waits) broken)
 

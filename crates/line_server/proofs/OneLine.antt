@@ -4,11 +4,10 @@ use Rattle.std.proofs.lemmas.Bool.{false≢true}
 use Rattle.std.proofs.lemmas.List.{append_assoc}
 use Rattle.std.specs.Prelude.{Option}
 use Rattle.command_text.specs.CommandLines.{most_of_line}
-use Rattle.ring_listing.specs.Rings.{Listing}
 use Rattle.session_core.specs.Sessions.{SessionState}
 use Rattle.line_server.specs.Answering.{name_lines}
 use Rattle.line_server.specs.Lines.{text_of}
-use Rattle.line_server.specs.Readers.{AreDropped, IsMeasured, HasAnsweredLine, names_of}
+use Rattle.line_server.specs.Readers.{AreDropped, IsMeasured, HasAnsweredLine, AreNames}
 use Rattle.line_server.specs.Sessions.{AnswersLine}
 use Rattle.line_server.specs.Whole.{HasAnsweredWhole}
 use Rattle.line_server.proofs.Answering.{measured, now_named}
@@ -31,18 +30,20 @@ whole_measured is_long line text long =
 
 -- the names stand behind the rest of the answer
 pub whole_of :
-    (old new : SessionState) (line text waiting waiting' waiting'' : List ℕ) (o p : Option Listing)
+    (old new : SessionState) (line text waiting waiting' waiting'' : List ℕ) (o p : Option ℕ)
+    (names : List (List ℕ))
     → text ≡ text_of line → o ≡ p
-    → HasAnsweredLine old line text waiting new waiting' (names_of o)
-    → waiting'' ≡ waiting' ++ name_lines (names_of p)
+    → HasAnsweredLine old line text waiting new waiting' o
+    → AreNames new p names
+    → waiting'' ≡ waiting' ++ name_lines names
     → HasAnsweredWhole old line waiting new waiting''
-whole_of old new line text waiting waiting' waiting'' o p is same told e =
+whole_of old new line text waiting waiting' waiting'' o p names is same told named e =
     let a = now_named old new line text waiting waiting' o p same told in
-    let answer = a.front ++ name_lines (names_of p) in
+    let answer = a.front ++ name_lines names in
     record {
       answer = answer;
       waits =
-          e ∙ ap (λ l. l ++ name_lines (names_of p)) a.waits
-          ∙ append_assoc waiting a.front (name_lines (names_of p));
-      session = subst (λ t. AnswersLine old new line t answer) is a.session;
+          e ∙ ap (λ l. l ++ name_lines names) a.waits
+          ∙ append_assoc waiting a.front (name_lines names);
+      session = subst (λ t. AnswersLine old new line t answer) is (a.session names named);
     }

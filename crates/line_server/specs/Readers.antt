@@ -4,8 +4,8 @@ use Rattle.std.specs.Prelude.{Option, None, Some}
 use Rattle.std.specs.List.{All}
 use Rattle.way_io.specs.Pieces.{AppendsPrefix}
 use Rattle.command_text.specs.CommandLines.{most_of_line}
-use Rattle.ring_listing.specs.Rings.{Listing}
-use Rattle.session_core.specs.Sessions.{SessionState}
+use Rattle.tree_model.specs.Names.{IsRing}
+use Rattle.session_core.specs.Sessions.{SessionState, IsSession}
 use Rattle.line_server.specs.declared.reader.Reader.{Reader}
 use Rattle.line_server.specs.declared.reader.TheConstants.{BUFFER_SIZE}
 use Rattle.line_server.specs.Answering.{name_lines}
@@ -49,17 +49,24 @@ pub record IsMeasured (is_long : Bool) (text line whole : List ℕ) : Type 0 whe
   pub short : is_long ≡ false → length line ≤ most_of_line
   pub same : is_long ≡ false → whole ≡ text
 
--- the names that a ring still gives, if there is one
-abbrev pub names_of : Option Listing → List (List ℕ)
-names_of None = []
-names_of (Some ring) = ring.rest
+-- the names of the ring of this number, if there is one
+pub data AreNames (s : SessionState) : Option ℕ → List (List ℕ) → Type 0 where
+  of_none : AreNames s None []
+  of_ring :
+      (d : ℕ) (names : List (List ℕ))
+      → IsSession s
+      → IsRing s.rules.kinds s.rules.automaton s.kind d names
+      → AreNames s (Some d) names
 
--- The session answered a line with this text. The answer waits, but for the names that follow it.
+-- The session answered a line with this text. The answer waits, but for the names of a ring that
+-- follow it, if there is one.
 pub record HasAnsweredLine (old : SessionState) (line text waiting : List ℕ)
-    (new : SessionState) (waiting' : List ℕ) (names : List (List ℕ)) : Type 0 where
+    (new : SessionState) (waiting' : List ℕ) (ring : Option ℕ) : Type 0 where
   pub front : List ℕ
   pub waits : waiting' ≡ waiting ++ front
-  pub session : AnswersLine old new line text (front ++ name_lines names)
+  pub session :
+      (names : List (List ℕ)) → AreNames new ring names
+      → AnswersLine old new line text (front ++ name_lines names)
 
 -- the session answered a line with this text, and the answer was said
 pub record HasReplied (tells : Bool) (old : SessionState) (line text taken waiting : List ℕ)

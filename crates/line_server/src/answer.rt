@@ -5,15 +5,14 @@ ghost use Rattle.command_text.specs.CommandLines.{IsSpelling, most_of_line};
 ghost use Rattle.command_text.specs.Replies.{reply_text};
 ghost use Rattle.lazy_map.specs.Texts.{most_texts};
 ghost use Rattle.session_core.specs.Answered.{IsBrief};
-ghost use Rattle.session_core.specs.Sessions.{HasNumbers};
-ghost use Rattle.line_server.specs.Readers.{AreDropped, IsMeasured, HasAnsweredLine, names_of};
+ghost use Rattle.session_core.specs.Sessions.{HasNumbers, SessionState};
+ghost use Rattle.line_server.specs.Readers.{AreDropped, IsMeasured, HasAnsweredLine, AreNames};
 ghost use Rattle.line_server.specs.Answering.{AreBehind};
 
 use command_text::{
     CommandFault, LONGEST_LINE, bad_line, read_command, too_long_line, write_reply,
 };
 use reply_model::{Command, Reply};
-use ring_listing::Ring;
 use session_core::{Session, laws};
 use std::alloc::{AllocError, Global};
 
@@ -33,26 +32,27 @@ pub(crate) fn is_too_long(lost: bool, line: &[u8]) -> bool
 }
 
 /// Answers a line with this text, or one that is too long. What it is answered with is appended to
-/// the bytes that wait, and behind them the names that come back follow, each as a line.
+/// the bytes that wait, and behind them the names of the ring whose number comes back follow, each as
+/// a line.
 /// Fewer than 4,294,967,295 tiles have a text before it, and at most as many more behind it as the
 /// text has bytes.
 ///
 /// # Errors
 ///
 /// `AllocError` where there is no memory: the session and the bytes that wait are as they were.
-pub(crate) fn answer_line<'r>(
+pub(crate) fn answer_line(
     alloc: Global,
-    session: &mut Session<'r>,
+    session: &mut Session<'_>,
     is_long: bool,
     text: &[u8],
     waiting: &mut Vec<u8>,
-) -> Result<Option<Ring<'r>>, AllocError>
+) -> Result<Option<u32>, AllocError>
     requires { length session.old.texts < most_texts }
     ensures few { length session.new.texts ≤ length session.old.texts + length text.now }
     ensures replied { (line whole : List ℕ) → IsMeasured is_long text.now line whole
-        → IfOk result (λ names. HasAnsweredLine session.old line whole waiting.old.items
-        session.new waiting.new.items (names_of names)) }
-    ensures listed { IfOk result (λ names. IsSome names → session.new ≡ session.old) }
+        → IfOk result (λ ring. HasAnsweredLine session.old line whole waiting.old.items
+        session.new waiting.new.items ring) }
+    ensures listed { IfOk result (λ ring. IsSome ring → session.new ≡ session.old) }
     ensures unchanged { OnErr result (session.new ≡ session.old) }
     ensures unsaid { OnErr result (waiting.new.items ≡ waiting.old.items) }
 {
@@ -73,21 +73,22 @@ pub(crate) fn answer_line<'r>(
     }
 }
 
-/// Answers a command: appends the line of its reply, and gives the names that follow. All room that
-/// the reply may need is taken before anything changes; a command that asks changes nothing.
-fn answer_command<'r>(
-    session: &mut Session<'r>,
+/// Answers a command: appends the line of its reply, and gives the number of the ring whose names
+/// follow. All room that the reply may need is taken before anything changes; a command that asks
+/// changes nothing.
+fn answer_command(
+    session: &mut Session<'_>,
     command: &Command,
     waiting: &mut Vec<u8>,
-) -> Result<Option<Ring<'r>>, AllocError>
+) -> Result<Option<u32>, AllocError>
     requires numbers { HasNumbers command.now }
     requires room { length session.old.texts < most_texts }
     ensures few { length session.new.texts ≤ suc (length session.old.texts) }
     ensures replied { (line text : List ℕ) → length line ≤ most_of_line
         → IsSpelling text command.now
-        → IfOk result (λ names. HasAnsweredLine session.old line text waiting.old.items
-        session.new waiting.new.items (names_of names)) }
-    ensures listed { IfOk result (λ names. IsSome names → session.new ≡ session.old) }
+        → IfOk result (λ ring. HasAnsweredLine session.old line text waiting.old.items
+        session.new waiting.new.items ring) }
+    ensures listed { IfOk result (λ ring. IsSome ring → session.new ≡ session.old) }
     ensures unchanged { OnErr result (session.new ≡ session.old) }
     ensures unsaid { OnErr result (waiting.new.items ≡ waiting.old.items) }
 {
@@ -100,9 +101,8 @@ fn answer_command<'r>(
         waiting.extend_from_slice(text)?;
         return Ok(None);
     }
-    let names = names_behind(session, &reply)?;
     write_reply(waiting, &reply)?;
-    Ok(names)
+    Ok(ring_behind(&reply))
 }
 
 /// The line of a brief reply.
@@ -122,12 +122,13 @@ fn brief_line(x: &Reply) -> Option<&'static [u8]>
     }
 }
 
-/// The names that follow the line of a reply: those of the ring that it lists.
-fn names_behind<'r>(session: &Session<'r>, x: &Reply) -> Result<Option<Ring<'r>>, AllocError>
-    ensures { IfOk result (λ names. AreBehind session.now x.now (names_of names)) }
+/// The number of the ring whose names follow the line of a reply: of the one that it lists.
+fn ring_behind(x: &Reply) -> Option<u32>
+    ensures { (s : SessionState) (names : List (List ℕ)) → AreNames s result names
+        → AreBehind s x.now names }
 {
     match x {
-        Reply::Tiles { d, .. } => Ok(Some(session.names_of_ring(*d)?)),
-        _ => Ok(None),
+        Reply::Tiles { d, .. } => Some(*d),
+        _ => None,
     }
 }

@@ -212,7 +212,7 @@ fn answer_one<O: Sink>(
 {
     let is_long = is_too_long(lost, line);
     match answer_line(alloc, session, is_long, text, waiting)? {
-        Some(mut ring) => pass_names(&mut ring, waiting, out),
+        Some(d) => pass_names(&mut session.names_of_ring(d)?, waiting, out),
         None => Ok(write_if_full(waiting, out)?),
     }
 }

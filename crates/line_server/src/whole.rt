@@ -54,7 +54,7 @@ fn append_answer(
 {
     let is_long = is_too_long(false, line);
     match answer_line(alloc, session, is_long, text_of(line), waiting)? {
-        Some(mut ring) => append_names(&mut ring, waiting),
+        Some(d) => append_names(&mut session.names_of_ring(d)?, waiting),
         None => Ok(()),
     }
 }
