@@ -18,7 +18,8 @@ edges of the regular tessellation {p,q}.
 The joins of `conway` come in either of two forms.
 With brackets, `(0 1)` says that edges 0 and 1 of tile 0 meet, and `(2)` that edge 2 meets edges
 like itself; `[0 1]` and `[2]` say the same where the tile across is mirrored, and so does `'`
-behind a number; `0@1` is edge 0 of tile 1.
+behind a number; `0@1` is edge 0 of tile 1. Edges count through all repeats of a tile, and those
+that are alike need one join.
 Without brackets there is a word for each edge below the repeats, tile by tile: two edges with one
 number meet, an edge whose number no other has meets edges like itself, `'` behind a number says
 that the tile across is mirrored, and `W*N` is the word W for N edges.
@@ -307,11 +308,9 @@ def tessellation(said: Description) -> Tessellation:
 def partners(said: Description) -> Dict[Type, Side]:
     """What lies across each edge that has a join."""
     partner: Dict[Type, Side] = {}
-    for one, other, mirrored in said.joins:
+    for join in said.joins:
+        one, other, mirrored = below(said, join.one), below(said, join.other), join.mirrored
         for here, there in ((one, other), (other, one)):
-            for kind, edge in (here, there):
-                if kind >= len(said.tiles) or edge >= len(said.tiles[kind].lengths):
-                    raise NotRead(f"tile {kind} has no edge {edge} below its repeat")
             if partner.setdefault(here, Side(*there, mirrored)) != Side(*there, mirrored):
                 raise NotRead(f"edge {here[1]} of tile {here[0]} has two joins")
     for (kind, edge), side in sorted(partner.items()):
@@ -320,6 +319,17 @@ def partners(said: Description) -> Dict[Type, Side]:
             raise NotRead(f"edge {edge} of tile {kind} is {mine:g} long, and edge {side.side} of "
                           f"tile {side.kind}, which it meets, {theirs:g}")
     return partner
+
+
+def below(said: Description, at: Type) -> Type:
+    """An edge of a tile as the one below its repeat that it is like."""
+    kind, edge = at
+    if kind >= len(said.tiles):
+        raise NotRead(f"there is no tile {kind}")
+    count = len(said.tiles[kind].lengths)
+    if edge >= count * said.tiles[kind].times:
+        raise NotRead(f"tile {kind} has no edge {edge}")
+    return kind, edge % count
 
 
 def with_valences(said: Description, tess: Tessellation) -> Tessellation:

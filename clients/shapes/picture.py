@@ -106,7 +106,7 @@ class View:
                 round(FINE * (middle - self.scale * z.imag)))
 
     def width(self, ends: Sequence[complex]) -> float:
-        """How large a tile is, in pixels: twice the greatest distance of a corner from their mean."""
+        """How large a tile is, in pixels: twice the distance from its middle to a far corner."""
         centre = sum(ends) / len(ends)
         return 2 * self.scale * max(abs(z - centre) for z in ends)
 

@@ -79,6 +79,12 @@ class WithoutTheProgram(Case):
         self.assertEqual((status, out), (1, ""))
         self.assertIn("the tiles close up", err)
 
+    def test_draw_keeps_the_tessellation(self):
+        text = (TOP / "samples/hr.tess").read_text()
+        path = self.file("hr.tess", text)
+        self.assertIn("written over", run("draw", path, path)[2])
+        self.assertEqual(path.read_text(), text)
+
     def test_draw_takes_no_odd_numbers(self):
         for words in (("--depth", -1), ("--size", 3), ("--root", "x")):
             status, out, err = run("draw", TOP / "samples/hr.tess", *words, self.folder / "out.svg")

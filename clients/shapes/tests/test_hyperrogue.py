@@ -43,6 +43,12 @@ class Samples(unittest.TestCase):
         self.assertEqual(tess_text(square + "c(0,0,0,2) c(0,1,0,1,1) c(0,3,0,3,1)"), with_brackets)
 
 
+    def test_edges_count_through_repeats(self):
+        brick = "e2. angleunit(deg) tile(1,90,1,180,1,90,*2) "
+        self.assertEqual(tess_text(brick + 'conway("(0 3)(1 4)(2 5)")'), tess_text(brick + 'conway("0 1 2")'))
+        self.assertEqual(tess_text(brick + 'conway("(3)(1 4)(5 2)")'), tess_text(brick + 'conway("0 1 2")'))
+
+
 class Faults(unittest.TestCase):
     HEAD = "e2. angleunit(deg) "
 
@@ -67,7 +73,7 @@ class Faults(unittest.TestCase):
         self.refused(square + 'conway("(0 2)(1)")', "edge 3 of tile 0 has no join")
         self.refused(square + 'conway("(0 2)(0)(1)(3)")', "edge 0 of tile 0 has two joins")
         self.refused(square + 'conway("(0 4)(1)(2)(3)")', "no edge 4")
-        self.refused(square + 'conway("(0 1@1)(1)(2)(3)")', "tile 1 has no edge 1")
+        self.refused(square + 'conway("(0 1@1)(1)(2)(3)")', "there is no tile 1")
         self.refused(square + 'conway("(0 1 2)(3)")', "no join")
         self.refused(square + 'conway("(0 1) 2")', "not read from '2'")
         self.refused(square + 'conway("0 1 2")', "3 words for 4 edges")
