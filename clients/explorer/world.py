@@ -82,6 +82,8 @@ class World:
         self.player, self.eye, self.start = (
             Walker(found, number) for number in (PLAYER, EYE, START)
         )
+        place = self.player.place()
+        self.eye.go_to(place.name).left(place.spin)
         self._near: Dict[int, List[Near]] = {}
         self._tours: Dict[int, Tuple[List[int], bytes]] = {}
 

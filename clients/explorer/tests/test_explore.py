@@ -104,6 +104,20 @@ class ByAddress(unittest.TestCase):
                     (there["name"], "camp <b>é", 0),
                 )
 
+    def test_a_map_that_was_made_elsewhere(self):
+        with tempfile.TemporaryDirectory() as folder:
+            file = Path(folder) / "a.map"
+            with Map(sample("hr.tess")) as found:
+                ann, bob = found.walker().go("LXLLXL"), found.walker().go("LLLX")
+                ann.put("ann was here")
+                bob.put("and bob")
+                found.save(file)
+            with Explore(sample("hr.tess"), "--map", file) as page:
+                state = page.do("look")
+                self.assertEqual((state["text"], state["level"]), ("ann was here", 2))
+                self.assertEqual(state["texts"]["0"], "ann was here")
+                self.assertEqual(sorted(state["texts"].values()), ["and bob", "ann was here"])
+
     def test_texts_lie_where_they_were_written(self):
         for name in ("hr", "flags", "bricks", "triangle237"):
             with Explore(sample(f"{name}.tess")) as page:

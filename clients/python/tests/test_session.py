@@ -293,7 +293,7 @@ class Walkers(unittest.TestCase):
     def test_a_view_of_200_tiles_takes_under_5_ms(self):
         with Session(**HR) as session:
             walker = session.walker().go(deep_walk(20))
-            times, end = [], time.perf_counter() + 10
+            times, end = [], time.perf_counter() + 30
             # The machine may have other work: the best of some runs, of more where none was good.
             while len(times) < 60 or min(times) >= 0.005 and time.perf_counter() < end:
                 start = time.perf_counter()
