@@ -1,5 +1,5 @@
 -- A line that a seat is told.
-use Rattle.std.proofs.Common.{◌≡◌, ℕ, List, drop, sym, ap, ◌∙◌, subst}
+use Rattle.std.proofs.Common.{◌≡◌, ℕ, List, drop, sym, subst}
 use Rattle.std.specs.Prelude.{Option, Some, Result, Ok, Err, OnOk}
 use Rattle.structure_check.specs.Rules.{TreeRules}
 use Rattle.session_core.specs.Sessions.{RestingState, session_over}

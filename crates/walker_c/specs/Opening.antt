@@ -1,5 +1,5 @@
 -- What it comes to that a session is asked for over the bytes of files.
-use Rattle.std.specs.Prelude.{◌≡◌, ℕ, List, [], ◌++◌, Option, Some, None, codes, true, bytes_eq, if◌then◌else◌}
+use Rattle.std.specs.Prelude.{◌≡◌, ℕ, List, [], Some, codes, true, bytes_eq, if◌then◌else◌}
 use Rattle.tile_model.specs.Tessellations.{TileKind}
 use Rattle.tree_model.specs.Automata.{TreeAutomaton}
 use Rattle.call_words.specs.Tasks.{RulesFrom, FromTeacher, RunSession, AreCells}

@@ -1,6 +1,4 @@
-use Rattle.std.specs.Prelude.{None}
 use Rattle.std.proofs.Common.{arith}
-use Rattle.walker_run.specs.Effects.{teacher_seen}
 use Rattle.walker_c.specs.Opening.{learning, no_cells}
 use Rattle.walker_c.proofs.open.by_learning.Goals.{then-cells-eq0-via-then-cells-eq0, then-cells-eq0-via-else-cells-eq0+then-cells-gt-MOST_CELLS}
 use Rattle.walker_c.proofs.open.by_learning.Goals as goal
