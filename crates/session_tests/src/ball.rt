@@ -16,7 +16,7 @@ struct Side {
 
 /// The sides of all tiles, tile by tile.
 #[derive(Debug, Drop)]
-pub(crate) struct Ball<'t> {
+pub struct Ball<'t> {
     tess: &'t Tessellation,
     sides: Vec<Side>,
     tiles: u32,
@@ -24,11 +24,7 @@ pub(crate) struct Ball<'t> {
 
 impl<'t> Ball<'t> {
     /// The tiles round one of kind 0: those that lie across the first so many sides.
-    pub(crate) fn grow(
-        alloc: Global,
-        tess: &'t Tessellation,
-        count: u32,
-    ) -> Result<Ball<'t>, AllocError> {
+    pub fn grow(alloc: Global, tess: &'t Tessellation, count: u32) -> Result<Ball<'t>, AllocError> {
         let mut ball = Ball {
             tess,
             sides: Vec::new(alloc),
@@ -42,7 +38,7 @@ impl<'t> Ball<'t> {
     }
 
     /// Where a walk leads from a side, if it stays among the tiles.
-    pub(crate) fn walk(&self, from: usize, letters: &[Letter]) -> Option<usize> {
+    pub fn walk(&self, from: usize, letters: &[Letter]) -> Option<usize> {
         let mut at = from;
         for x in letters {
             at = match x {
@@ -55,16 +51,12 @@ impl<'t> Ball<'t> {
     }
 
     /// The number of the tile that a side belongs to.
-    pub(crate) fn tile(&self, side: usize) -> Option<u32> {
+    pub fn tile(&self, side: usize) -> Option<u32> {
         Some(self.sides.get(side)?.tile)
     }
 
     /// How many crossings the tiles are away from one of them, by crossings of joined sides.
-    pub(crate) fn distances(
-        &self,
-        alloc: Global,
-        from: u32,
-    ) -> Result<Vec<Option<u32>>, AllocError> {
+    pub fn distances(&self, alloc: Global, from: u32) -> Result<Vec<Option<u32>>, AllocError> {
         let mut found = Vec::new(alloc);
         for tile in 0..self.tiles {
             found.push(if tile == from { Some(0) } else { None })?;

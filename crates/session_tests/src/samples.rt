@@ -19,10 +19,10 @@ fn alike(alloc: Global, sides: u8, valence: u8) -> Option<Rules> {
     regular(alloc, &tessellation).ok()
 }
 
-pub(crate) fn squares(alloc: Global) -> Option<Rules> {
+pub fn squares(alloc: Global) -> Option<Rules> {
     alike(alloc, 4, 4)
 }
 
-pub(crate) fn triangles(alloc: Global) -> Option<Rules> {
+pub fn triangles(alloc: Global) -> Option<Rules> {
     alike(alloc, 3, 7)
 }
