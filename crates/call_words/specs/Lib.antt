@@ -1,3 +1,4 @@
 pub mod Options
 pub mod Tasks
 pub mod Forms
+pub mod Laws

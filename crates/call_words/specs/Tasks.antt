@@ -4,6 +4,7 @@ use Rattle.short_numbers.specs.Numbers.{IsNumber}
 use Rattle.tile_model.specs.declared.Letter.{Letter}
 use Rattle.tile_model.specs.WalkTexts.{walk_text}
 use Rattle.call_words.specs.Options.{value_of, AreOptions}
+use Rattle.call_words.specs.declared.options.TheConstants.{MOST_CELLS, DEFAULT_CELLS}
 
 -- where the rules of a session come from: from the file of this name, or from a teacher that may
 -- make so many cells
@@ -29,15 +30,19 @@ pub record IsKindForm (words : List (List ℕ)) (tess : List ℕ) (k : ℕ) (wal
   pub number : IsNumber digits k
   pub spelled : words ≡ codes "kind" ∷ tess ∷ digits ∷ walk_text walk ∷ []
 
+-- the most cells that a teacher may be allowed
+abbrev pub most_cells : ℕ
+most_cells = MOST_CELLS
+
 -- the word behind `--cells`: a number from 1 to 1,000,000
 pub record IsCells (digits : List ℕ) (cells : ℕ) : Type 0 where
   pub number : IsNumber digits cells
   pub least : 1 ≤ cells
-  pub most : cells ≤ 1000000
+  pub most : cells ≤ most_cells
 
 -- the cells that a teacher may make where the words name no number
 abbrev pub default_cells : ℕ
-default_cells = 50000
+default_cells = DEFAULT_CELLS
 
 -- the cells that a teacher may make, by the value of `--cells`
 abbrev pub AreCellsOf : Option (List ℕ) → ℕ → Type 0
@@ -106,7 +111,7 @@ AreNotOfMerge words = (tess rules out : List ℕ) → IsMergeForm words tess rul
 
 -- so many cells may be asked for
 abbrev pub AreCells : ℕ → Type 0
-AreCells cells = (1 ≤ cells) × (cells ≤ 1000000)
+AreCells cells = (1 ≤ cells) × (cells ≤ most_cells)
 
 -- rules of this origin, and a task, ask for no other number of cells
 abbrev pub AskInRange : RulesFrom → Type 0

@@ -2,7 +2,8 @@
 #![tactic(auto)]
 
 mod forms;
+pub mod laws;
 mod options;
 
 pub use forms::{Form, WordsFault, read_words};
-pub use options::{Named, Origin};
+pub use options::{DEFAULT_CELLS, MOST_CELLS, Named, Origin};

@@ -8,10 +8,10 @@ ghost use Rattle.call_words.specs.Forms.{name_of, rules_from};
 use short_numbers::read_number;
 
 /// The most cells that a teacher may be allowed.
-const MOST_CELLS: u32 = 1_000_000;
+pub const MOST_CELLS: u32 = 1_000_000;
 
 /// The cells that a teacher may make where the words name no number.
-const DEFAULT_CELLS: u32 = 50_000;
+pub const DEFAULT_CELLS: u32 = 50_000;
 
 /// The value of an option.
 #[derive(Clone, Copy, Debug, PartialEq, Eq)]

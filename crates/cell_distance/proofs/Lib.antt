@@ -3,3 +3,4 @@ mod Cancelling
 mod Arriving
 mod Leaving
 mod Spotted
+mod Blocks

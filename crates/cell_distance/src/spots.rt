@@ -1,6 +1,6 @@
 //! Distances and shortest walks between two spots of one tree.
-ghost use Rattle.std.specs.Prelude.{◌≡◌, ◌≤◌, ◌⊎◌, List, [], length, take};
-ghost use Rattle.std.specs.Prelude.{IfOk, IsErrOf};
+ghost use Rattle.std.specs.Prelude.{◌≡◌, ◌≤◌, ◌⊎◌, ◌+◌, List, [], length, take, drop};
+ghost use Rattle.std.specs.Prelude.{IfOk, IsErrOf, IsTrue};
 ghost use Rattle.tile_model.specs.declared.Letter.{Letter};
 ghost use Rattle.tile_model.specs.Walks.{type_of};
 ghost use Rattle.tile_model.specs.Relation.{IsDistance};
@@ -21,6 +21,9 @@ use structure_check::Rules;
 use tile_kinds::DartType;
 use turn_rules::Spot;
 use walk_words::Walk;
+
+/// How many sides are compared at once.
+const BLOCK: usize = 64;
 
 /// The least number of crossings of a walk from the tile of `s` to the tile of `t`, two spots of
 /// one tree: whatever walks they stand after, this is the distance between the two.
@@ -102,15 +105,30 @@ fn go_between_spots(
     Ok((from, there))
 }
 
-/// How many sides two names begin with that are the same.
+/// How many sides two names begin with that are the same: deep names share nearly all of them, so
+/// whole blocks of sides are compared first.
 fn shared(m: &[u8], n: &[u8]) -> usize
     ensures first { result ≤ length m.now }
     ensures second { result ≤ length n.now }
     ensures same { take result m.now ≡ take result n.now }
 {
     let mut count = 0;
+    while is_same_block(m, n, count) {
+        count += BLOCK;
+    }
     while count < m.len() && count < n.len() && m[count] == n[count] {
         count += 1;
     }
     count
+}
+
+/// Whether both lists go on with one block of sides from a place on.
+fn is_same_block(m: &[u8], n: &[u8], at: usize) -> bool
+    requires first { at ≤ length m.now }
+    requires second { at ≤ length n.now }
+    ensures first { IsTrue result → at + BLOCK ≤ length m.now }
+    ensures second { IsTrue result → at + BLOCK ≤ length n.now }
+    ensures same { IsTrue result → take BLOCK (drop at m.now) ≡ take BLOCK (drop at n.now) }
+{
+    m.len() - at >= BLOCK && n.len() - at >= BLOCK && m[at..at + BLOCK] == n[at..at + BLOCK]
 }

@@ -1,12 +1,14 @@
 -- What the expansion is to the handed kinds, over all lists of kinds.
 use Rattle.std.specs.Prelude.{◌≡◌, ◌↔◌, ℕ, Bool, List}
 use Rattle.tile_model.specs.declared.Letter.{Letter}
+use Rattle.tile_model.specs.declared.fault.KindFault.{KindFault}
 use Rattle.tile_model.specs.Tessellations.{IsType, left as flat_left, right as flat_right, cross as flat_cross, sides as flat_sides, valence as flat_valence}
 use Rattle.tile_model.specs.Validity.{IsValid}
 use Rattle.tile_model.specs.Walks.{type_of}
 use Rattle.tile_model.specs.Relation.{IsLoop, AreRelated}
 use Rattle.handed_kinds.specs.Handed.{HandedKind, IsHandedType, left, right, cross, sides, valence}
 use Rattle.handed_kinds.specs.HandedValidity.{IsHandedValid}
+use Rattle.handed_kinds.specs.HandedFaults.{IsHandedFault}
 use Rattle.handed_kinds.specs.HandedWalks.{handed_type, IsHandedLoop}
 use Rattle.handed_kinds.specs.HandedRelation.{AreHandedRelated}
 use Rattle.handed_kinds.specs.Expansion.{flat, expanded}
@@ -55,3 +57,13 @@ RelationIsFlat =
     (hs : List HandedKind) → IsHandedValid hs → (t : ℕ × ℕ × Bool) → IsHandedType hs t
     → (u w : List Letter)
     → AreHandedRelated hs t u w ↔ AreRelated (expanded hs) (flat hs t) u w
+
+-- Handed kinds that have a fault are no tessellation.
+abbrev pub FaultsRefute : Type 0
+FaultsRefute =
+    (hs : List HandedKind) (fault : KindFault) → IsHandedFault hs fault → ¬ IsHandedValid hs
+
+-- Handed kinds have one fault at most.
+abbrev pub OneHandedFault : Type 0
+OneHandedFault =
+    (hs : List HandedKind) (f g : KindFault) → IsHandedFault hs f → IsHandedFault hs g → f ≡ g

@@ -3,10 +3,11 @@ use Rattle.std.specs.Prelude.{ℕ, nat_eq, List, Option}
 use Rattle.std.specs.Cmp.Lexicographic.{pointwise}
 use Rattle.std.specs.List.{IsDistinct}
 use Rattle.std.specs.Map.{keys_of, lookup}
+use Rattle.lazy_map.specs.declared.map.TheConstants.{LONGEST_TEXT}
 
 -- the most bytes of a text
 abbrev pub longest_text : ℕ
-longest_text = 64
+longest_text = LONGEST_TEXT
 
 -- the most names that have a text
 abbrev pub most_texts : ℕ

@@ -2,6 +2,7 @@
 -- Which walkers exist after one, which walk each has gone, and when each reply in it is due.
 use Rattle.std.specs.Prelude.{◌≡◌, ℕ, ◌==◌, if◌then◌else◌, List, [], ◌∷◌, ◌++◌, Contains}
 use Rattle.tile_model.specs.declared.Letter.{Letter}
+use Rattle.reply_model.specs.declared.TheConstants.{WALKERS}
 use Rattle.reply_model.specs.declared.Command.{Command}
 use Rattle.reply_model.specs.declared.Command.TheVariants.{New, Go}
 use Rattle.reply_model.specs.declared.Reply.{Reply}
@@ -12,7 +13,7 @@ History = List (Command × Reply)
 
 -- how many walkers there can be: their numbers are those below it
 abbrev pub most_walkers : ℕ
-most_walkers = 64
+most_walkers = WALKERS
 
 -- Walker w exists: it was made.
 abbrev pub Exists : History → ℕ → Type 0

@@ -1,6 +1,7 @@
 -- The texts on tiles, by a reading: what was last written where a walk leads.
 use Rattle.std.specs.Prelude.{◌≡◌, ℕ, ◌≤◌, List, ◌∷◌, ◌++◌, length}
 use Rattle.tile_model.specs.declared.Letter.{Letter}
+use Rattle.reply_model.specs.declared.TheConstants.{LONGEST_TEXT}
 use Rattle.reply_model.specs.declared.Command.TheVariants.{Put}
 use Rattle.reply_model.specs.declared.Reply.TheVariants.{Done}
 use Rattle.reply_model.specs.Histories.{History, walk_of}
@@ -8,7 +9,7 @@ use Rattle.reply_model.specs.Readings.{Reading}
 
 -- the most bytes of a text on a tile
 abbrev pub longest_text : ℕ
-longest_text = 64
+longest_text = LONGEST_TEXT
 
 module _ (reading : Reading) (history : History) (u : List Letter) where
   -- Next after `before` in the history, the text is written on the tile of the walk u: by an accepted

@@ -3,3 +3,4 @@ pub mod Faults
 pub mod Ranges
 pub mod Taking
 pub mod Parts
+pub mod Laws

@@ -11,7 +11,7 @@ mod read;
 mod take;
 
 pub use fault::{Part, RulesFault};
-pub use laws::{canonical_text_law, one_automaton_law};
+pub use laws::{canonical_text_law, first_fault_law, one_automaton_law};
 pub use print::print_rules;
 pub use read::read_rules;
 

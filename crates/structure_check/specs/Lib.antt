@@ -2,3 +2,4 @@ pub mod Broken
 pub mod Rules
 pub mod Search
 pub mod Cycles
+pub mod Laws

@@ -6,6 +6,7 @@ mod broken;
 mod conditions;
 mod corners;
 mod cycles;
+pub mod laws;
 mod reading;
 mod roots;
 mod rules;

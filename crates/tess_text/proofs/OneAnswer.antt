@@ -11,9 +11,7 @@ use Rattle.tile_model.specs.declared.fault.KindFault.{KindFault}
 use Rattle.tile_model.proofs.Refused.{refuted}
 use Rattle.tile_model.proofs.OneFault.{one_fault}
 use Rattle.handed_kinds.specs.Handed.{HandedKind, no_handed, handed_at, IsSide as IsSideOf, partner_at, valence_at}
-use Rattle.handed_kinds.proofs.Refused.{refuted as handed_refuted}
-use Rattle.handed_kinds.proofs.OneFault.{one_fault as one_handed_fault}
-use Rattle.handed_kinds.proofs.Valid.{handed_valid}
+use Rattle.handed_kinds.specs.Laws.{OneValidity, FaultsRefute, OneHandedFault}
 use Rattle.tess_text.specs.declared.entry.Entry.{Entry}
 use Rattle.tess_text.specs.declared.version.Version.{Version}
 use Rattle.tess_text.specs.declared.version.Version.TheVariants.{One, Two}
@@ -21,6 +19,7 @@ use Rattle.tess_text.specs.declared.fault.TessFault.{TessFault}
 use Rattle.tess_text.specs.declared.fault.TessFault.TheVariants.{Line, Kinds, Memory}
 use Rattle.tess_text.specs.FileLines.{word_lines}
 use Rattle.tess_text.specs.Grammar.{entries, IsInGrammar, IsFirstBadAt, IsFirstBadLine}
+use Rattle.tess_text.specs.Laws.{SpeltIsNotRefused, OneRefusal}
 use Rattle.tess_text.specs.Spelling.{Spells, plain, kinds_of, IsFaultIn, Says, IsSpelling, IsRefused, IsFaultOf, IsFaultFor}
 
 -- one first bad line
@@ -101,40 +100,43 @@ spelling_same bytes a b x y =
     let same = same_said bytes x.version y.version x.said y.said x.says y.says in
     x.value ∙ ap₂ kinds_of same.0 same.1 ∙ sym y.value
 
--- kinds with a fault are no tessellation, and have one fault
-refuted_in : (version : Version) (said : List HandedKind) (fault : KindFault) → IsFaultIn version said fault → IsValid (kinds_of version said) → ⊥
-refuted_in One said fault has valid = refuted (map plain said) fault has valid
-refuted_in Two said fault has valid = handed_refuted said fault has (handed_valid said valid)
+-- kinds with a fault are no tessellation
+module _ (validity : OneValidity) (refutes : FaultsRefute) where
+  refuted_in : (version : Version) (said : List HandedKind) (fault : KindFault) → IsFaultIn version said fault → IsValid (kinds_of version said) → ⊥
+  refuted_in One said fault has valid = refuted (map plain said) fault has valid
+  refuted_in Two said fault has valid = refutes said fault has ((validity said).1 valid)
 
-one_fault_in : (version : Version) (said : List HandedKind) (f g : KindFault) → IsFaultIn version said f → IsFaultIn version said g → f ≡ g
-one_fault_in One said f g has_f has_g = one_fault (map plain said) f g has_f has_g
-one_fault_in Two said f g has_f has_g = one_handed_fault said f g has_f has_g
+  pub not_refused : (bytes : List ℕ) (kinds : List TileKind) (fault : KindFault) → IsSpelling bytes kinds → IsValid kinds → IsRefused bytes fault → ⊥
+  not_refused bytes kinds fault spelling valid refused =
+      let same = same_said bytes spelling.version refused.version spelling.said refused.said spelling.says refused.says in
+      refuted_in refused.version refused.said fault refused.refused (subst IsValid (spelling.value ∙ ap₂ kinds_of same.0 same.1) valid)
 
-pub not_refused : (bytes : List ℕ) (kinds : List TileKind) (fault : KindFault) → IsSpelling bytes kinds → IsValid kinds → IsRefused bytes fault → ⊥
-not_refused bytes kinds fault spelling valid refused =
-    let same = same_said bytes spelling.version refused.version spelling.said refused.said spelling.says refused.says in
-    refuted_in refused.version refused.said fault refused.refused (subst IsValid (spelling.value ∙ ap₂ kinds_of same.0 same.1) valid)
+-- and have one fault
+module _ (one : OneHandedFault) where
+  one_fault_in : (version : Version) (said : List HandedKind) (f g : KindFault) → IsFaultIn version said f → IsFaultIn version said g → f ≡ g
+  one_fault_in One said f g has_f has_g = one_fault (map plain said) f g has_f has_g
+  one_fault_in Two said f g has_f has_g = one said f g has_f has_g
 
-same_fault : (bytes : List ℕ) (f g : KindFault) → IsRefused bytes f → IsRefused bytes g → f ≡ g
-same_fault bytes f g x y =
-    let same = same_said bytes x.version y.version x.said y.said x.says y.says in
-    one_fault_in y.version y.said f g (subst (λ (v : Version). IsFaultIn v y.said f) same.0 (subst (λ (said : List HandedKind). IsFaultIn x.version said f) same.1 x.refused)) y.refused
+  pub same_fault : (bytes : List ℕ) (f g : KindFault) → IsRefused bytes f → IsRefused bytes g → f ≡ g
+  same_fault bytes f g x y =
+      let same = same_said bytes x.version y.version x.said y.said x.says y.says in
+      one_fault_in y.version y.said f g (subst (λ (v : Version). IsFaultIn v y.said f) same.0 (subst (λ (said : List HandedKind). IsFaultIn x.version said f) same.1 x.refused)) y.refused
 
 -- so that each answer with its cause is the only one
-only_memory : (bytes : List ℕ) (e : TessFault) (kinds : List TileKind) → IsFaultOf bytes e → IsSpelling bytes kinds → IsValid kinds → e ≡ Memory
-only_memory bytes (Line n) kinds cause spelling valid = absurd (no_bad_line bytes n spelling.says.grammar cause)
-only_memory bytes (Kinds fault) kinds cause spelling valid = absurd (not_refused bytes kinds fault spelling valid cause)
-only_memory bytes Memory kinds cause spelling valid = refl
+only_memory : SpeltIsNotRefused → (bytes : List ℕ) (e : TessFault) (kinds : List TileKind) → IsFaultOf bytes e → IsSpelling bytes kinds → IsValid kinds → e ≡ Memory
+only_memory apart bytes (Line n) kinds cause spelling valid = absurd (no_bad_line bytes n spelling.says.grammar cause)
+only_memory apart bytes (Kinds fault) kinds cause spelling valid = absurd (apart bytes kinds fault spelling valid cause)
+only_memory apart bytes Memory kinds cause spelling valid = refl
 
 only_line : (bytes : List ℕ) (e : TessFault) (n : ℕ) → IsFaultOf bytes e → IsFirstBadLine bytes n → (e ≡ Line n) ⊎ (e ≡ Memory)
 only_line bytes (Line m) n cause bad = inl (ap (λ (k : ℕ). Line k) (line_same bytes m n cause bad))
 only_line bytes (Kinds fault) n cause bad = absurd (no_bad_line bytes n cause.says.grammar bad)
 only_line bytes Memory n cause bad = inr refl
 
-only_fault : (bytes : List ℕ) (e : TessFault) (fault : KindFault) → IsFaultOf bytes e → IsRefused bytes fault → (e ≡ Kinds fault) ⊎ (e ≡ Memory)
-only_fault bytes (Line n) fault cause refused = absurd (no_bad_line bytes n refused.says.grammar cause)
-only_fault bytes (Kinds other) fault cause refused = inl (ap (λ (f : KindFault). Kinds f) (same_fault bytes other fault cause refused))
-only_fault bytes Memory fault cause refused = inr refl
+only_fault : OneRefusal → (bytes : List ℕ) (e : TessFault) (fault : KindFault) → IsFaultOf bytes e → IsRefused bytes fault → (e ≡ Kinds fault) ⊎ (e ≡ Memory)
+only_fault one bytes (Line n) fault cause refused = absurd (no_bad_line bytes n refused.says.grammar cause)
+only_fault one bytes (Kinds other) fault cause refused = inl (ap (λ (f : KindFault). Kinds f) (one bytes other fault cause refused))
+only_fault one bytes Memory fault cause refused = inr refl
 
 -- the fault of the kinds that a file says is a fault of the file
 fault_of : (bytes : List ℕ) (version : Version) (said : List HandedKind) (e : TessFault) → Says bytes version said → IsFaultFor version said e → IsFaultOf bytes e
@@ -162,14 +164,14 @@ pub answer_cause : (bytes : List ℕ) (r : Result (List TileKind) TessFault) →
 answer_cause bytes (Ok t) answer = tt
 answer_cause bytes (Err e) answer = answer
 
-pub answer_kinds : (bytes : List ℕ) (r : Result (List TileKind) TessFault) (kinds : List TileKind) → IsAnswer bytes r → IsSpelling bytes kinds → IsValid kinds → MatchResult r (λ t. t ≡ kinds) (λ e. e ≡ Memory)
-answer_kinds bytes (Ok t) kinds answer spelling valid = spelling_same bytes t kinds answer.0 spelling
-answer_kinds bytes (Err e) kinds answer spelling valid = only_memory bytes e kinds answer spelling valid
+pub answer_kinds : SpeltIsNotRefused → (bytes : List ℕ) (r : Result (List TileKind) TessFault) (kinds : List TileKind) → IsAnswer bytes r → IsSpelling bytes kinds → IsValid kinds → MatchResult r (λ t. t ≡ kinds) (λ e. e ≡ Memory)
+answer_kinds apart bytes (Ok t) kinds answer spelling valid = spelling_same bytes t kinds answer.0 spelling
+answer_kinds apart bytes (Err e) kinds answer spelling valid = only_memory apart bytes e kinds answer spelling valid
 
 pub answer_line : (bytes : List ℕ) (r : Result (List TileKind) TessFault) (n : ℕ) → IsAnswer bytes r → IsFirstBadLine bytes n → MatchResult r (λ t. ⊥) (λ e. (e ≡ Line n) ⊎ (e ≡ Memory))
 answer_line bytes (Ok t) n answer bad = no_bad_line bytes n answer.0.says.grammar bad
 answer_line bytes (Err e) n answer bad = only_line bytes e n answer bad
 
-pub answer_fault : (bytes : List ℕ) (r : Result (List TileKind) TessFault) (fault : KindFault) → IsAnswer bytes r → IsRefused bytes fault → MatchResult r (λ t. ⊥) (λ e. (e ≡ Kinds fault) ⊎ (e ≡ Memory))
-answer_fault bytes (Ok t) fault answer refused = not_refused bytes t fault answer.0 answer.1 refused
-answer_fault bytes (Err e) fault answer refused = only_fault bytes e fault answer refused
+pub answer_fault : SpeltIsNotRefused → OneRefusal → (bytes : List ℕ) (r : Result (List TileKind) TessFault) (fault : KindFault) → IsAnswer bytes r → IsRefused bytes fault → MatchResult r (λ t. ⊥) (λ e. (e ≡ Kinds fault) ⊎ (e ≡ Memory))
+answer_fault apart one bytes (Ok t) fault answer refused = apart bytes t fault answer.0 answer.1 refused
+answer_fault apart one bytes (Err e) fault answer refused = only_fault one bytes e fault answer refused

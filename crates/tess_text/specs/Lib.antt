@@ -3,3 +3,4 @@ pub mod Grammar
 pub mod Spelling
 pub mod Text
 pub mod Tables
+pub mod Laws

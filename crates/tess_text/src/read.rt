@@ -11,6 +11,7 @@ ghost use Rattle.tess_text.specs.Tables.{Hold, IsRead};
 
 use crate::entry::{Entry, read_entry};
 use crate::fault::TessFault;
+use crate::laws::outcome_law;
 use crate::scan::{content, next_line, next_word};
 use crate::tables::Tables;
 use crate::version::{Version, allows, read_head};
@@ -195,6 +196,8 @@ pub fn read_tess(alloc: Global, bytes: &[u8]) -> Result<Tessellation, TessFault>
     ensures no_count { ¬ (IsRefused bytes.now KindFault.Count) }
     ensures never_count { IfErr result (λ e. e ≢ TessFault.Kinds KindFault.Count) }
 {
+    // That a file comes to one outcome is a law, which each clause that says "wherever" cites.
+    outcome_law();
     let (version, kinds) = read_kinds(alloc, bytes)?;
     tess_of(alloc, version, kinds)
 }
