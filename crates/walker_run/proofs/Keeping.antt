@@ -12,6 +12,7 @@ use Rattle.walker_run.specs.Lines.{MayStore, status_of}
 use Rattle.walker_run.specs.Held.{Loaded, Refused, Lesson, IsMade}
 use Rattle.walker_run.specs.Due.{Contents, Row, StoresFor, StoresAs, MakesFor, check_accepted, merge_accepted}
 use Rattle.walker_run.specs.Effects.{FilesSeen, TeacherSeen, OnlyFetches, KeepsRules, End, Says, Opens, Lacks, FitsTask, fits_row, fits_unstored, fits_nothing, MayStoreAt, IsCarriedOut}
+use Rattle.walker_run.specs.Below.{LawsBelow}
 use Rattle.walker_run.proofs.Unique.{one_made, one_makes}
 
 -- the lines of rules that were kept
@@ -76,14 +77,14 @@ module _ (tells : Bool) (before between after : FilesSeen) (asked answered : Tea
     | inr same ↦ rose_stores same.2
   ]
 
-  stored_text : (end : End) → Keeps end → IsTrue tells → (file : List ℕ) (ks : List TileKind) (b : TreeAutomaton) → StoresAs task file → MakesFor before.contents lesson task ks b → end ≡ Says (Accepted (length b.states) (length b.corners)) → after.contents file ≡ Some (rules_text b)
-  stored_text end k told file ks b named other is =
-      let same : b ≡ a = one_makes before.contents lesson task kinds ks a b (makes told) other in
+  stored_text : LawsBelow → (end : End) → Keeps end → IsTrue tells → (file : List ℕ) (ks : List TileKind) (b : TreeAutomaton) → StoresAs task file → MakesFor before.contents lesson task ks b → end ≡ Says (Accepted (length b.states) (length b.corners)) → after.contents file ≡ Some (rules_text b)
+  stored_text below end k told file ks b named other is =
+      let same : b ≡ a = one_makes below before.contents lesson task kinds ks a b (makes told) other in
       subst (λ (x : TreeAutomaton). after.contents file ≡ Some (rules_text x)) (sym same)
       (k.stored told file named (subst (λ (x : TreeAutomaton). end ≡ Says (Accepted (length x.states) (length x.corners))) same is))
 
-  pub keeps : (end : End) → Keeps end → IsCarriedOut tells before after asked answered task end
-  keeps end k = record {
+  pub keeps : LawsBelow → (end : End) → Keeps end → IsCarriedOut tells before after asked answered task end
+  keeps below end k = record {
     lesson = lesson;
     due = kept_due end k;
     fetches = λ role is. absurd (kept_line (FileFault role) end k is);
@@ -92,7 +93,7 @@ module _ (tells : Bool) (before between after : FilesSeen) (asked answered : Tea
     stores = λ none. k.stores none ∙ f.stores;
     others = λ told file other. k.others told file other ∙ f.same told file;
     kept = kept_or_stored (stored_in task) refl end k;
-    stored = stored_text end k;
+    stored = stored_text below end k;
     closed = λ n is. absurd (kept_line (Closed n) end k is);
     gave_up = λ n is. absurd (kept_line (GaveUp n) end k is);
     ready = λ ks b n is. absurd (k.unopened ks b n is);

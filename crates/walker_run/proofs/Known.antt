@@ -8,7 +8,6 @@ use Rattle.rules_file.specs.Spelling.{rules_text}
 use Rattle.way_io.specs.Counts.{Rose}
 use Rattle.way_io.specs.Contents.{KeepsAll}
 use Rattle.call_words.specs.Tasks.{Task, TellType, CheckRules, RunSession, LearnRules, MergeRules, Ask, HaveNoForm, AreNotOfRun, IsOut}
-use Rattle.call_words.proofs.OneTask.{one_task}
 use Rattle.walker_run.specs.declared.line.Role.{Role}
 use Rattle.walker_run.specs.declared.line.Line.TheVariants.{Accepted, Usage, FileFault, Closed, GaveUp, StoreFault, InputTooLong}
 use Rattle.walker_run.specs.Runs.{Call, Run, call_of}
@@ -17,6 +16,7 @@ use Rattle.walker_run.specs.Held.{Outcome, Loaded, Refused, Lesson, IsTess, tess
 use Rattle.walker_run.specs.Due.{Contents, no_form, by_task, Serves, StoresAs, Stores, MakesFor, IsToMake, MaySay, due, unread, unstored}
 use Rattle.walker_run.specs.Promise.{IsClosedIn, IsGivenUpIn}
 use Rattle.walker_run.specs.Effects.{FilesSeen, End, Says, Opens, Lacks, ServesFor, FitsTask, fits_row, fits_unread, fits_unstored, fits_session, fits_nothing, MayStoreAt, IsSession, IsCarriedOut, IsDecided, formless, wordless, carried_out}
+use Rattle.walker_run.specs.Below.{LawsBelow}
 use Rattle.walker_run.specs.Ending.{files_of, teacher_of}
 
 -- what a call may come to
@@ -103,16 +103,16 @@ to_make contents lesson (LearnRules tess cells out) kinds a makes = tt
 to_make contents lesson (MergeRules tess rules out) kinds a makes = tt
 
 -- words that ask for such a task are not of the form `run`
-pub not_of_run : (words : List (List ℕ)) (task : Task) → Ask words task → IsToMake task → AreNotOfRun words
-not_of_run words (TellType tess k walk) ask make = absurd make
-not_of_run words (CheckRules tess rules) ask make = absurd make
-not_of_run words (RunSession tess k rules) ask make = absurd make
-not_of_run words (LearnRules tess cells out) ask make = λ tess' k rules form. absurd (cc (one_task words (LearnRules tess cells out) (RunSession tess' k rules) ask form))
-not_of_run words (MergeRules tess rules out) ask make = λ tess' k rules' form. absurd (cc (one_task words (MergeRules tess rules out) (RunSession tess' k rules') ask form))
+pub not_of_run : LawsBelow → (words : List (List ℕ)) (task : Task) → Ask words task → IsToMake task → AreNotOfRun words
+not_of_run below words (TellType tess k walk) ask make = absurd make
+not_of_run below words (CheckRules tess rules) ask make = absurd make
+not_of_run below words (RunSession tess k rules) ask make = absurd make
+not_of_run below words (LearnRules tess cells out) ask make = λ tess' k rules form. absurd (cc (below.one_task words (LearnRules tess cells out) (RunSession tess' k rules) ask form))
+not_of_run below words (MergeRules tess rules out) ask make = λ tess' k rules' form. absurd (cc (below.one_task words (MergeRules tess rules out) (RunSession tess' k rules') ask form))
 
-pub stores_no_run : (call : Call) → Stores call → AreNotOfRun call.words
-stores_no_run call stores =
-    not_of_run call.words stores.task stores.ask (to_make call.contents call.lesson stores.task stores.reached.kinds stores.reached.automaton stores.reached.makes)
+pub stores_no_run : LawsBelow → (call : Call) → Stores call → AreNotOfRun call.words
+stores_no_run below call stores =
+    not_of_run below call.words stores.task stores.ask (to_make call.contents call.lesson stores.task stores.reached.kinds stores.reached.automaton stores.reached.makes)
 
 module _ (run : Run) where
   abbrev Decided : End → Type 0
@@ -124,65 +124,66 @@ module _ (run : Run) where
   same_files : files_of run.after ≡ files_of run.before → (file : List ℕ) → run.after.contents file ≡ run.before.contents file
   same_files same file = λ i. (same i).contents file
 
-  stored_by : (task : Task) (end : End) → Ask run.words task → (c : Carried task end) → IsTrue run.files_tell → (asked : Task) (out : List ℕ) (kinds : List TileKind) (a : TreeAutomaton)
-      → Ask run.words asked → StoresAs asked out → MakesFor run.before.contents c.lesson asked kinds a
-      → end ≡ Says (Accepted (length a.states) (length a.corners)) → run.after.contents out ≡ Some (rules_text a)
-  stored_by task end ask c told asked out kinds a form named makes is =
-      let same : asked ≡ task = one_task run.words asked task form ask in
-      c.stored told out kinds a (subst (λ (t : Task). StoresAs t out) same named) (subst (λ (t : Task). MakesFor run.before.contents c.lesson t kinds a) same makes) is
+  module _ (below : LawsBelow) where
+    stored_by : (task : Task) (end : End) → Ask run.words task → (c : Carried task end) → IsTrue run.files_tell → (asked : Task) (out : List ℕ) (kinds : List TileKind) (a : TreeAutomaton)
+        → Ask run.words asked → StoresAs asked out → MakesFor run.before.contents c.lesson asked kinds a
+        → end ≡ Says (Accepted (length a.states) (length a.corners)) → run.after.contents out ≡ Some (rules_text a)
+    stored_by task end ask c told asked out kinds a form named makes is =
+        let same : asked ≡ task = below.one_task run.words asked task form ask in
+        c.stored told out kinds a (subst (λ (t : Task). StoresAs t out) same named) (subst (λ (t : Task). MakesFor run.before.contents c.lesson t kinds a) same makes) is
 
-  of_task : (task : Task) (end : End) → Ask run.words task → (c : Carried task end) → Known run c.lesson end
-  of_task task end ask c = record {
-    reached = λ told. reached_by (call_of run c.lesson) task ask (c.due told);
-    fetches = c.fetches;
-    unwritten = c.unstored;
-    short = c.short;
-    stores = λ none. c.stores (λ file named. none file (record { task = task; ask = ask; named = named }));
-    others = λ told file other. c.others told file (λ named. other (record { task = task; ask = ask; named = named }));
-    kept = λ told. elim (c.kept told) [
-      | inl same ↦ inl same
-      | inr stored ↦ inr (record { task = task; ask = ask; reached = stored.0 }, stored.1)
-    ];
-    stored = stored_by task end ask c;
-    closed = λ n is. record { task = task; ask = ask; closed = c.closed n is };
-    gave_up = λ n is. record { task = task; ask = ask; given_up = c.gave_up n is };
-    ready = λ kinds a k is. let known = c.ready kinds a k is in (of_run run.words task ask known.0, known.2);
-    formless = λ none. absurd (none task ask);
-  }
+    of_task : (task : Task) (end : End) → Ask run.words task → (c : Carried task end) → Known run c.lesson end
+    of_task task end ask c = record {
+      reached = λ told. reached_by (call_of run c.lesson) task ask (c.due told);
+      fetches = c.fetches;
+      unwritten = c.unstored;
+      short = c.short;
+      stores = λ none. c.stores (λ file named. none file (record { task = task; ask = ask; named = named }));
+      others = λ told file other. c.others told file (λ named. other (record { task = task; ask = ask; named = named }));
+      kept = λ told. elim (c.kept told) [
+        | inl same ↦ inl same
+        | inr stored ↦ inr (record { task = task; ask = ask; reached = stored.0 }, stored.1)
+      ];
+      stored = stored_by task end ask c;
+      closed = λ n is. record { task = task; ask = ask; closed = c.closed n is };
+      gave_up = λ n is. record { task = task; ask = ask; given_up = c.gave_up n is };
+      ready = λ kinds a k is. let known = c.ready kinds a k is in (of_run run.words task ask known.0, known.2);
+      formless = λ none. absurd (none task ask);
+    }
 
-  pub known : {end : End} → Decided end → (lesson : Lesson) × Known run lesson end
-  known (formless none same) = (
-    None,
-    record {
-      reached = λ told. due Usage (no_form none);
-      fetches = λ role is. absurd (cc is);
-      unwritten = λ is. absurd (cc is);
-      short = λ is. absurd (cc is);
-      stores = λ file. ap (λ (x : FilesSeen). x.failed_stores) same;
-      others = λ told file other. same_files same file;
-      kept = λ told. inl (same_files same);
-      stored = λ told task out kinds a ask named makes is. absurd (none task ask);
-      closed = λ n is. absurd (cc is);
-      gave_up = λ n is. absurd (cc is);
-      ready = λ kinds a k is. absurd (cc is);
-      formless = λ none'. inl refl;
-    },
-  )
-  known (wordless same) = (
-    None,
-    record {
-      reached = λ told. tt;
-      fetches = λ role is. absurd (cc is);
-      unwritten = λ is. absurd (cc is);
-      short = λ is. absurd (cc is);
-      stores = λ file. ap (λ (x : FilesSeen). x.failed_stores) same;
-      others = λ told file other. same_files same file;
-      kept = λ told. inl (same_files same);
-      stored = λ told task out kinds a ask named makes is. absurd (cc is);
-      closed = λ n is. absurd (cc is);
-      gave_up = λ n is. absurd (cc is);
-      ready = λ kinds a k is. absurd (cc is);
-      formless = λ none'. inr refl;
-    },
-  )
-  known (carried_out task end ask c) = (c.lesson, of_task task end ask c)
+    pub known : {end : End} → Decided end → (lesson : Lesson) × Known run lesson end
+    known (formless none same) = (
+      None,
+      record {
+        reached = λ told. due Usage (no_form none);
+        fetches = λ role is. absurd (cc is);
+        unwritten = λ is. absurd (cc is);
+        short = λ is. absurd (cc is);
+        stores = λ file. ap (λ (x : FilesSeen). x.failed_stores) same;
+        others = λ told file other. same_files same file;
+        kept = λ told. inl (same_files same);
+        stored = λ told task out kinds a ask named makes is. absurd (none task ask);
+        closed = λ n is. absurd (cc is);
+        gave_up = λ n is. absurd (cc is);
+        ready = λ kinds a k is. absurd (cc is);
+        formless = λ none'. inl refl;
+      },
+    )
+    known (wordless same) = (
+      None,
+      record {
+        reached = λ told. tt;
+        fetches = λ role is. absurd (cc is);
+        unwritten = λ is. absurd (cc is);
+        short = λ is. absurd (cc is);
+        stores = λ file. ap (λ (x : FilesSeen). x.failed_stores) same;
+        others = λ told file other. same_files same file;
+        kept = λ told. inl (same_files same);
+        stored = λ told task out kinds a ask named makes is. absurd (cc is);
+        closed = λ n is. absurd (cc is);
+        gave_up = λ n is. absurd (cc is);
+        ready = λ kinds a k is. absurd (cc is);
+        formless = λ none'. inr refl;
+      },
+    )
+    known (carried_out task end ask c) = (c.lesson, of_task task end ask c)

@@ -13,6 +13,7 @@ use Rattle.walker_run.specs.Held.{Lesson}
 use Rattle.walker_run.specs.Due.{IsDue, Serves}
 use Rattle.walker_run.specs.Effects.{FilesSeen, TeacherSeen, End, Opens, IsDecided, formless, wordless, carried_out}
 use Rattle.walker_run.specs.Ending.{SaysLine, said, unsaid, unwritten}
+use Rattle.walker_run.specs.Below.{LawsBelow}
 use Rattle.walker_run.proofs.Unique.{never_both}
 use Rattle.walker_run.proofs.Whatever.{due_whatever}
 use Rattle.walker_run.proofs.Known.{IsReached, reached_by, of_run}
@@ -39,10 +40,10 @@ module _ (tells : Bool) (words : List (List ℕ)) (before after : FilesSeen) (as
       (c.lesson, subst (λ (e : End). IsReached (call_with words before.contents c.lesson) e) is (reached_by (call_with words before.contents c.lesson) task ask (c.due told)))
 
   -- no line is due whatever the teacher answers
-  pub nothing_due : {end : End} → IsDecided tells words before after asked answered end → end ≡ Opens kinds a k → IsTrue tells → (line : Line) → IsDue (call_with words before.contents None) line → ⊥
-  nothing_due decided is told line due =
+  pub nothing_due : LawsBelow → {end : End} → IsDecided tells words before after asked answered end → end ≡ Opens kinds a k → IsTrue tells → (line : Line) → IsDue (call_with words before.contents None) line → ⊥
+  nothing_due below decided is told line due =
       let found = served decided is told in
-      never_both (call_with words before.contents found.0) line kinds a k (due_whatever before.contents found.0 words due) found.1
+      never_both below (call_with words before.contents found.0) line kinds a k (due_whatever before.contents found.0 words due) found.1
 
 -- that an input is too long is no refusal
 pub too_long_no_refusal : (takes : Bool) (taken taken' : List ℕ) (status : Status) → SaysLine takes TooLong taken taken' status → IsRefusal status → ⊥

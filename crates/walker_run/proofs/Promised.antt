@@ -12,37 +12,38 @@ use Rattle.walker_run.specs.Due.{IsDue}
 use Rattle.walker_run.specs.Promise.{KeepsPromise}
 use Rattle.walker_run.specs.Effects.{End, Says, Opens, Lacks}
 use Rattle.walker_run.specs.Ending.{IsWritten, Ends}
+use Rattle.walker_run.specs.Below.{LawsBelow}
 use Rattle.walker_run.proofs.Unique.{never_both}
 use Rattle.walker_run.proofs.Known.{Known, known}
 use Rattle.walker_run.proofs.TableRows.{merges_row, exactly, done_row, no_form_row, fault_row, store_row, closed_row, give_up_row, read_row, long_row, memory_row, write_row, served_row, kept_row, unmade_row, stored_row, made_so}
 use Rattle.walker_run.proofs.StreamRows.{stream_row}
 
 -- the input is left alone where a line is due
-unread_row : (run : Run) (lesson : Lesson) (end : End) → Known run lesson end → IsWritten run end → IsTrue run.files_tell → (line : Line) → IsDue (call_of run lesson) line → run.after.left ≡ run.before.left
-unread_row run lesson (Says other) known written told line due = written.1
-unread_row run lesson (Opens kinds a k) known written told line due = absurd (never_both (call_of run lesson) line kinds a k due (known.reached told))
-unread_row run lesson Lacks known written told line due = written.2
+unread_row : LawsBelow → (run : Run) (lesson : Lesson) (end : End) → Known run lesson end → IsWritten run end → IsTrue run.files_tell → (line : Line) → IsDue (call_of run lesson) line → run.after.left ≡ run.before.left
+unread_row below run lesson (Says other) known written told line due = written.1
+unread_row below run lesson (Opens kinds a k) known written told line due = absurd (never_both below (call_of run lesson) line kinds a k due (known.reached told))
+unread_row below run lesson Lacks known written told line due = written.2
 
-pub promise : OfEachTree OutputsAgree → (run : Run) → Ends run → (run.status ≡ ReadFault → Rose run.before.failed_reads run.after.failed_reads) → (run.status ≡ WriteFault → Rose run.before.failed_writes run.after.failed_writes)
+pub promise : LawsBelow → OfEachTree OutputsAgree → (run : Run) → Ends run → (run.status ≡ ReadFault → Rose run.before.failed_reads run.after.failed_reads) → (run.status ≡ WriteFault → Rose run.before.failed_writes run.after.failed_writes)
     → (IsTrue run.sink_tells → TakesMore run.before.taken run.after.taken) → (IsTrue run.source_tells → GivesInOrder run.before.left run.after.left) → KeepsPromise run
-promise agree run ends unread unwritten taken left =
-    let found = known run ends.decided in
+promise below agree run ends unread unwritten taken left =
+    let found = known run below ends.decided in
     let lesson = found.0 in
     let is = found.1 in
     record {
       lesson = lesson;
-      stream = stream_row run lesson agree ends.end is ends.written;
-      served = served_row run lesson ends.end is ends.written;
+      stream = stream_row run lesson agree below ends.end is ends.written;
+      served = served_row run lesson below ends.end is ends.written;
       table = record {
-        done = done_row run lesson ends.end is ends.written;
-        usage = λ told. exactly run lesson ends.end is ends.written told Usage tt (λ never. never);
-        file_too_long = λ told. exactly run lesson ends.end is ends.written told FileTooLong tt (λ never. never);
-        tess_refused = λ told. exactly run lesson ends.end is ends.written told TessRefused tt (λ never. never);
-        rules_text = λ told. exactly run lesson ends.end is ends.written told RulesText tt (λ never. never);
-        not_accepted = λ told. exactly run lesson ends.end is ends.written told NotAccepted tt (λ never. never);
-        spherical = λ told. exactly run lesson ends.end is ends.written told Spherical tt (λ never. never);
-        merges = merges_row run lesson ends.end is ends.written;
-        made = made_so run lesson ends.end is ends.written;
+        done = done_row run lesson below ends.end is ends.written;
+        usage = λ told. exactly run lesson below ends.end is ends.written told Usage tt (λ never. never);
+        file_too_long = λ told. exactly run lesson below ends.end is ends.written told FileTooLong tt (λ never. never);
+        tess_refused = λ told. exactly run lesson below ends.end is ends.written told TessRefused tt (λ never. never);
+        rules_text = λ told. exactly run lesson below ends.end is ends.written told RulesText tt (λ never. never);
+        not_accepted = λ told. exactly run lesson below ends.end is ends.written told NotAccepted tt (λ never. never);
+        spherical = λ told. exactly run lesson below ends.end is ends.written told Spherical tt (λ never. never);
+        merges = merges_row run lesson below ends.end is ends.written;
+        made = made_so run lesson below ends.end is ends.written;
         closed = closed_row run lesson ends.end is ends.written;
         gave_up = give_up_row run lesson ends.end is ends.written;
         file_fault = fault_row run lesson ends.end is ends.written;
@@ -57,10 +58,10 @@ promise agree run ends unread unwritten taken left =
         others = is.others;
         contents = kept_row run lesson ends.end is ends.written;
         unmade = unmade_row run lesson ends.end is;
-        stored = stored_row run lesson ends.end is ends.written;
+        stored = stored_row run lesson below ends.end is ends.written;
         stores = is.stores;
         taken = taken;
         left = left;
-        unread = unread_row run lesson ends.end is ends.written;
+        unread = unread_row below run lesson ends.end is ends.written;
       };
     }

@@ -21,6 +21,7 @@ use Rattle.walker_run.specs.Serving.{OutputStands, LinesStand, RefusalStands, Be
 use Rattle.walker_run.specs.Promise.{IsOutsideOfStream, BeginsLine, AnswersStream}
 use Rattle.walker_run.specs.Effects.{End, Says, Opens, Lacks}
 use Rattle.walker_run.specs.Ending.{said, unsaid, unwritten, answered, cut_off, over_limit, broken_off, out_of_memory, IsWritten}
+use Rattle.walker_run.specs.Below.{LawsBelow}
 use Rattle.walker_run.proofs.OverTree.{stands_over_tree}
 use Rattle.walker_run.proofs.Streams.{nothing_begun}
 use Rattle.walker_run.proofs.Unique.{never_both, one_session}
@@ -84,7 +85,7 @@ module _ (run : Run) (lesson : Lesson) (answering : Answering) where
   stream_wants gives (broken_off is stands) takes want = absurd (cc (is, want))
   stream_wants gives (out_of_memory is stands) takes want = stands gives takes
 
-module _ (run : Run) (lesson : Lesson) (outputs_agree : OfEachTree OutputsAgree) where
+module _ (run : Run) (lesson : Lesson) (outputs_agree : OfEachTree OutputsAgree) (below : LawsBelow) where
   -- the commands were answered
   stream_answers : (kinds : List TileKind) (a : TreeAutomaton) (k : ℕ) → IsTrue run.source_tells → Serves (call_of run lesson) kinds a k → IsAccepted kinds a → Streams run lesson (over_walks kinds a k) → AnswersStream run lesson kinds a k
   stream_answers kinds a k gives serves accepted ends =
@@ -122,9 +123,9 @@ module _ (run : Run) (lesson : Lesson) (outputs_agree : OfEachTree OutputsAgree)
 
   -- where walkers are to be served no line is said but that a file could not be read
   said_instead : (kinds : List TileKind) (a : TreeAutomaton) (k : ℕ) → Serves (call_of run lesson) kinds a k → {line : Line} → MaySay (call_of run lesson) line → (role : Role) × (line ≡ FileFault role)
-  said_instead kinds a k serves (due line is_due) = absurd (never_both (call_of run lesson) line kinds a k is_due serves)
+  said_instead kinds a k serves (due line is_due) = absurd (never_both below (call_of run lesson) line kinds a k is_due serves)
   said_instead kinds a k serves (unread role fetches) = (role, refl)
-  said_instead kinds a k serves (unstored stores) = absurd (stores_no_run (call_of run lesson) stores serves.tess k serves.rules serves.form)
+  said_instead kinds a k serves (unstored stores) = absurd (stores_no_run below (call_of run lesson) stores serves.tess k serves.rules serves.form)
 
   said_unread : (kinds : List TileKind) (a : TreeAutomaton) (k : ℕ) (line : Line) → Known run lesson (Says line) → SaidSo run lesson line → (role : Role) × (line ≡ FileFault role) → AnswersStream run lesson kinds a k
   said_unread kinds a k line known says fault =
@@ -135,7 +136,7 @@ module _ (run : Run) (lesson : Lesson) (outputs_agree : OfEachTree OutputsAgree)
   -- what holds of the rules that a call serves holds of all that it may be said to serve
   of_these : (kinds : List TileKind) (a : TreeAutomaton) (k : ℕ) → Serves (call_of run lesson) kinds a k → (kinds' : List TileKind) (a' : TreeAutomaton) (k' : ℕ) → Serves (call_of run lesson) kinds' a' k' → AnswersStream run lesson kinds a k → AnswersStream run lesson kinds' a' k'
   of_these kinds a k serves kinds' a' k' also holds =
-      let same = one_session (call_of run lesson) kinds kinds' a a' k k' serves also in
+      let same = one_session below (call_of run lesson) kinds kinds' a a' k k' serves also in
       subst (λ (n : ℕ). AnswersStream run lesson kinds' a' n) same.2 (subst (λ (x : TreeAutomaton). AnswersStream run lesson kinds' x k) same.1 (subst (λ (ks : List TileKind). AnswersStream run lesson ks a k) same.0 holds))
 
   pub stream_row : (end : End) → Known run lesson end → IsWritten run end → IsTrue run.files_tell → IsTrue run.source_tells → (kinds : List TileKind) (a : TreeAutomaton) (k : ℕ) → Serves (call_of run lesson) kinds a k → AnswersStream run lesson kinds a k

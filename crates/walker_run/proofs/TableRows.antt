@@ -19,6 +19,7 @@ use Rattle.walker_run.specs.Outcome.{Writes, WritesNothing, ComesExactly, GivesA
 use Rattle.walker_run.specs.Promise.{BeginsLine, BeginsFault, IsServing, TellsFileFault, TellsStoreFault, TellsClosed, TellsGiveUp, TellsMade, StoresRules}
 use Rattle.walker_run.specs.Effects.{End, Says, Opens, Lacks, MayStoreAt}
 use Rattle.walker_run.specs.Ending.{SaysLine, said, unsaid, unwritten, EndsStream, answered, cut_off, over_limit, broken_off, out_of_memory, IsWritten}
+use Rattle.walker_run.specs.Below.{LawsBelow}
 use Rattle.walker_run.proofs.Unique.{one_line, never_both, row_of, one_loaded, not_refused_too, one_rules}
 use Rattle.walker_run.proofs.LineKinds.{kind_of, refusal_undone, session_kind, tess_kind, done_accepted, due_no_fault}
 use Rattle.walker_run.proofs.Keeping.{made_row}
@@ -128,21 +129,6 @@ module _ (run : Run) (lesson : Lesson) where
     always = λ other is_due is. inr outside;
   }
 
-  said_due : (line : Line) (status : Status) → IsOfLine status → run.status ≡ status_of line → Writes run (text_of line) → MaySay (call_of run lesson) line → ComesExactly run lesson status
-  said_due line status of_line is wrote (due l is_due) = record {
-    only = λ same. (l, is_due, sym is ∙ same, wrote);
-    always = λ other also other_is.
-        let same : l ≡ other = one_line (call_of run lesson) l other is_due also in
-        inl (is ∙ ap status_of same ∙ other_is, subst (λ (x : Line). Writes run (text_of x)) same wrote);
-  }
-  said_due line status of_line is wrote (unread role fetches) = unanswered status of_line (between is tt)
-  said_due line status of_line is wrote (unstored stores) = unanswered status of_line (between is tt)
-
-  said_exactly : (line : Line) (status : Status) → IsOfLine status → MaySay (call_of run lesson) line → SaidSo line → ComesExactly run lesson status
-  said_exactly line status of_line may (said is wrote) = said_due line status of_line is wrote may
-  said_exactly line status of_line may (unsaid is kept) = unanswered status of_line (between is tt)
-  said_exactly line status of_line may (unwritten is part) = unanswered status of_line (between is tt)
-
   -- of the statuses of lines a stream ends with Done alone
   stream_done : (answering : Answering) → Streams answering → (status : Status) → run.status ≡ status → IsOfLine status → IsDone status
   stream_done answering (answered is few stands) status same line = subst IsDone (sym is ∙ same) tt
@@ -166,24 +152,9 @@ module _ (run : Run) (lesson : Lesson) where
   stream_status answering (broken_off is stands) = subst IsOfAnswers (sym is) tt
   stream_status answering (out_of_memory is stands) = subst IsOfAnswers (sym is) tt
 
-  -- the row of a status of lines other than Done
-  pub exactly : (end : End) → Known run lesson end → IsWritten run end → IsTrue run.files_tell → (status : Status) → IsOfLine status → (IsDone status → ⊥) → ComesExactly run lesson status
-  exactly (Says line) known written told status of_line other = said_exactly line status of_line (known.reached told) written.0
-  exactly (Opens kinds a k) known written told status of_line other = record {
-    only = λ same. absurd (other (stream_done (over_walks kinds a k) written status same of_line));
-    always = λ line is_due is. absurd (never_both (call_of run lesson) line kinds a k is_due (known.reached told));
-  }
-  exactly Lacks known written told status of_line other = unanswered status of_line (between written.0 tt)
-
   -- the run serves walkers
   pub serving : (kinds : List TileKind) (a : TreeAutomaton) (k : ℕ) → Known run lesson (Opens kinds a k) → IsServing run lesson
   serving kinds a k known = record { asked = (known.ready kinds a k refl).0; serves = λ told. record { kinds = kinds; automaton = a; kind = k; serves = known.reached told } }
-
-  -- the row of Done
-  pub done_row : (end : End) → Known run lesson end → IsWritten run end → IsTrue run.files_tell → ServesSome (call_of run lesson) ⊎ ComesExactly run lesson Done
-  done_row (Says line) known written told = inr (said_exactly line Done tt (known.reached told) written.0)
-  done_row (Opens kinds a k) known written told = inl ((serving kinds a k known).serves told)
-  done_row Lacks known written told = inr (unanswered Done tt (between written.0 tt))
 
   -- words in no form
   at_once : (line : Line) → line ≡ Usage → SaidSo line → GivesAtOnce run UsageStatus (text_of Usage)
@@ -307,20 +278,6 @@ module _ (run : Run) (lesson : Lesson) where
   write_row (Opens kinds a k) known written broke = inr (serving kinds a k known)
   write_row Lacks known written broke = absurd (cc (written.0, broke))
 
-  -- no line that may be said to words of the form `run` has the status Done
-  unserved : (line : Line) → MaySay (call_of run lesson) line → status_of line ≡ Done → AreNotOfRun run.words
-  unserved line (due l is_due) done = λ tess k rules form.
-      refusal_undone l (session_kind run.before.contents lesson tess k rules (row_of (call_of run lesson) (RunSession tess k rules) form is_due)) done
-  unserved line (unread role fetches) done = absurd (cc done)
-  unserved line (unstored stores) done = absurd (cc done)
-
-  pub served_row : (end : End) → Known run lesson end → IsWritten run end → IsTrue run.files_tell → ¬ AreNotOfRun run.words → run.status ≡ Done → ServesSome (call_of run lesson)
-  served_row (Says line) known written told form done =
-      let is = said_with line Done tt written.0 done in
-      absurd (form (unserved line (known.reached told) is.0))
-  served_row (Opens kinds a k) known written told form done = (serving kinds a k known).serves told
-  served_row Lacks known written told form done = absurd (cc (written.0, done))
-
   -- what the files hold
   pub kept_row : (end : End) → Known run lesson end → IsWritten run end → IsTrue run.files_tell → (MayStore run.status → ⊥) → KeepsAll run.before.contents run.after.contents
   kept_row end known written told never = elim (known.kept told) [
@@ -348,33 +305,6 @@ module _ (run : Run) (lesson : Lesson) where
   accepted_due : (task : Task) (kinds : List TileKind) (a : TreeAutomaton) → Ask run.words task → MakesFor run.before.contents lesson task kinds a → IsDue (call_of run lesson) (Accepted (length a.states) (length a.corners))
   accepted_due task kinds a ask makes = by_task task (Accepted (length a.states) (length a.corners)) ask (made_row run.before.contents lesson task kinds a makes)
 
-  stored_done : (task : Task) (out : List ℕ) (kinds : List TileKind) (a : TreeAutomaton) → Ask run.words task → StoresAs task out → MakesFor run.before.contents lesson task kinds a
-      → (line : Line) → Known run lesson (Says line) → IsTrue run.files_tell → status_of line ≡ Done → MaySay (call_of run lesson) line → run.after.contents out ≡ Some (rules_text a)
-  stored_done task out kinds a ask named makes line known told done (due l is_due) =
-      let same : l ≡ Accepted (length a.states) (length a.corners) = one_line (call_of run lesson) l (Accepted (length a.states) (length a.corners)) is_due (accepted_due task kinds a ask makes) in
-      known.stored told task out kinds a ask named makes (ap Says same)
-  stored_done task out kinds a ask named makes line known told done (unread role fetches) = absurd (cc done)
-  stored_done task out kinds a ask named makes line known told done (unstored stores) = absurd (cc done)
-
-  stored_broken : (task : Task) (out : List ℕ) (kinds : List TileKind) (a : TreeAutomaton) → Ask run.words task → StoresAs task out → MakesFor run.before.contents lesson task kinds a
-      → (line : Line) → Known run lesson (Says line) → IsTrue run.files_tell → BeginsLine run lesson line → MaySay (call_of run lesson) line → (run.after.contents out ≡ Some (rules_text a)) ⊎ BeginsFault run lesson
-  stored_broken task out kinds a ask named makes line known told begins (due l is_due) =
-      let same : l ≡ Accepted (length a.states) (length a.corners) = one_line (call_of run lesson) l (Accepted (length a.states) (length a.corners)) is_due (accepted_due task kinds a ask makes) in
-      inl (known.stored told task out kinds a ask named makes (ap Says same))
-  stored_broken task out kinds a ask named makes line known told begins (unread role fetches) = inr (record { line = FileFault role; fault = inl (role, refl); begins = begins })
-  stored_broken task out kinds a ask named makes line known told begins (unstored stores) = inr (record { line = StoreFault; fault = inr refl; begins = begins })
-
-  -- the rules that are made were stored before their line was written
-  pub stored_row : (end : End) → Known run lesson end → IsWritten run end → IsTrue run.files_tell → (task : Task) (out : List ℕ) (kinds : List TileKind) (a : TreeAutomaton)
-      → Ask run.words task → StoresAs task out → MakesFor run.before.contents lesson task kinds a → StoresRules run lesson out a
-  stored_row (Says line) known written told task out kinds a ask named makes = record {
-    at_done = λ done. stored_done task out kinds a ask named makes line known told (said_with line Done tt written.0 done).0 (known.reached told);
-    at_write_fault = λ broke. stored_broken task out kinds a ask named makes line known told (begun line known written.0 broke) (known.reached told);
-  }
-  stored_row (Opens ks b k) known written told task out kinds a ask named makes =
-      absurd ((known.ready ks b k refl).0 (not_of_run run.words task ask (to_make run.before.contents lesson task kinds a makes)))
-  stored_row Lacks known written told task out kinds a ask named makes = record { at_done = λ done. absurd (cc (written.0, done)); at_write_fault = λ broke. absurd (cc (written.0, broke)) }
-
   -- the rules for which a line tells that they are made, with the status Done
   pub record IsMaking (task : Task) (line : Line) : Type 0 where
     pub kinds : List TileKind
@@ -399,57 +329,130 @@ module _ (run : Run) (lesson : Lesson) where
   making_line (LearnRules tess cells out) make row done = learnt_line tess cells out row done
   making_line (MergeRules tess rules out) make row done = merged_line tess rules out row done
 
-  making : (task : Task) → Ask run.words task → IsToMake task → {line : Line} → MaySay (call_of run lesson) line → status_of line ≡ Done → IsMaking task line
-  making task ask make (due line is_due) done = making_line task make (row_of (call_of run lesson) task ask is_due) done
-  making task ask make (unread role fetches) done = absurd (cc done)
-  making task ask make (unstored stores) done = absurd (cc done)
+  -- a line whose status is Done or tells of the outside, said or not
+  abbrev EndsSo : Status → Type 0
+  EndsSo status = (status ≡ Done) ⊎ IsOutside status
 
-  pub made_so : (end : End) → Known run lesson end → IsWritten run end → IsTrue run.files_tell → (task : Task) → Ask run.words task → IsToMake task → run.status ≡ Done → TellsMade run lesson task
-  made_so (Says line) known written told task ask make done =
-      let is = said_with line Done tt written.0 done in
-      let m = making task ask make (known.reached told) is.0 in
-      record {
-        kinds = m.kinds;
-        automaton = m.automaton;
-        makes = m.makes;
-        written = subst (λ (l : Line). Writes run (text_of l)) m.is is.1;
-        stored = λ file named. (stored_row (Says line) known written told task file m.kinds m.automaton ask named m.makes).at_done done;
-      }
-  made_so (Opens kinds a k) known written told task ask make done = absurd ((known.ready kinds a k refl).0 (not_of_run run.words task ask make))
-  made_so Lacks known written told task ask make done = absurd (cc (written.0, done))
+  so_said : (line : Line) → EndsSo (status_of line) → SaidSo line → EndsSo run.status
+  so_said line ends (said is wrote) = subst EndsSo (sym is) ends
+  so_said line ends (unsaid is kept) = inr (between is tt)
+  so_said line ends (unwritten is part) = inr (between is tt)
 
-  -- where two files can be merged no line is due but that of what is left
-  module _ (m : MergesFiles (call_of run lesson)) where
-    refused_too : (line : Line) → IsRules run.before.contents m.kinds m.rules (Refused line) → ⊥
-    refused_too line refused =
-        let same = one_rules run.before.contents m.kinds m.rules refused (rules_loaded m.rules_bytes m.automaton m.holds_rules m.rules_spelling m.accepted) in
-        absurd (cc same)
+  -- what rests on the laws by which the table says one thing
+  module _ (below : LawsBelow) where
+    said_due : (line : Line) (status : Status) → IsOfLine status → run.status ≡ status_of line → Writes run (text_of line) → MaySay (call_of run lesson) line → ComesExactly run lesson status
+    said_due line status of_line is wrote (due l is_due) = record {
+      only = λ same. (l, is_due, sym is ∙ same, wrote);
+      always = λ other also other_is.
+          let same : l ≡ other = one_line below (call_of run lesson) l other is_due also in
+          inl (is ∙ ap status_of same ∙ other_is, subst (λ (x : Line). Writes run (text_of x)) same wrote);
+    }
+    said_due line status of_line is wrote (unread role fetches) = unanswered status of_line (between is tt)
+    said_due line status of_line is wrote (unstored stores) = unanswered status of_line (between is tt)
 
-    merges_line : {line : Line} → MergeRow run.before.contents m.tess m.rules line → status_of line ≡ Done
-    merges_line (merge_no_tess line is) = absurd (not_refused_too run.before.contents m.tess (tess_loaded m.tess_bytes m.kinds m.holds_tess m.tess_spelling m.valid) is)
-    merges_line (merge_no_rules kinds line is refused) =
-        let same = one_loaded run.before.contents m.tess is (tess_loaded m.tess_bytes m.kinds m.holds_tess m.tess_spelling m.valid) in
-        absurd (refused_too line (subst (λ (ks : List TileKind). IsRules run.before.contents ks m.rules (Refused line)) same refused))
-    merges_line (merge_accepted kinds a merges) = refl
+    said_exactly : (line : Line) (status : Status) → IsOfLine status → MaySay (call_of run lesson) line → SaidSo line → ComesExactly run lesson status
+    said_exactly line status of_line may (said is wrote) = said_due line status of_line is wrote may
+    said_exactly line status of_line may (unsaid is kept) = unanswered status of_line (between is tt)
+    said_exactly line status of_line may (unwritten is part) = unanswered status of_line (between is tt)
 
-    -- a line whose status is Done or tells of the outside, said or not
-    abbrev EndsSo : Status → Type 0
-    EndsSo status = (status ≡ Done) ⊎ IsOutside status
+    -- the row of a status of lines other than Done
+    pub exactly : (end : End) → Known run lesson end → IsWritten run end → IsTrue run.files_tell → (status : Status) → IsOfLine status → (IsDone status → ⊥) → ComesExactly run lesson status
+    exactly (Says line) known written told status of_line other = said_exactly line status of_line (known.reached told) written.0
+    exactly (Opens kinds a k) known written told status of_line other = record {
+      only = λ same. absurd (other (stream_done (over_walks kinds a k) written status same of_line));
+      always = λ line is_due is. absurd (never_both below (call_of run lesson) line kinds a k is_due (known.reached told));
+    }
+    exactly Lacks known written told status of_line other = unanswered status of_line (between written.0 tt)
 
-    so_said : (line : Line) → EndsSo (status_of line) → SaidSo line → EndsSo run.status
-    so_said line ends (said is wrote) = subst EndsSo (sym is) ends
-    so_said line ends (unsaid is kept) = inr (between is tt)
-    so_said line ends (unwritten is part) = inr (between is tt)
+    -- the row of Done
+    pub done_row : (end : End) → Known run lesson end → IsWritten run end → IsTrue run.files_tell → ServesSome (call_of run lesson) ⊎ ComesExactly run lesson Done
+    done_row (Says line) known written told = inr (said_exactly line Done tt (known.reached told) written.0)
+    done_row (Opens kinds a k) known written told = inl ((serving kinds a k known).serves told)
+    done_row Lacks known written told = inr (unanswered Done tt (between written.0 tt))
 
-    merges_due : (line : Line) → MaySay (call_of run lesson) line → EndsSo (status_of line)
-    merges_due line (due l is_due) = inl (merges_line (row_of (call_of run lesson) (MergeRules m.tess m.rules m.out) m.form is_due))
-    merges_due line (unread role fetches) = inr tt
-    merges_due line (unstored stores) = inr tt
+    -- no line that may be said to words of the form `run` has the status Done
+    unserved : (line : Line) → MaySay (call_of run lesson) line → status_of line ≡ Done → AreNotOfRun run.words
+    unserved line (due l is_due) done = λ tess k rules form.
+        refusal_undone l (session_kind run.before.contents lesson tess k rules (row_of below (call_of run lesson) (RunSession tess k rules) form is_due)) done
+    unserved line (unread role fetches) done = absurd (cc done)
+    unserved line (unstored stores) done = absurd (cc done)
 
-    merges_so : (end : End) → Known run lesson end → IsWritten run end → IsTrue run.files_tell → EndsSo run.status
-    merges_so (Says line) known written told = so_said line (merges_due line (known.reached told)) written.0
-    merges_so (Opens kinds a k) known written told = absurd ((known.ready kinds a k refl).0 (not_of_run run.words (MergeRules m.tess m.rules m.out) m.form tt))
-    merges_so Lacks known written told = inr (between written.0 tt)
+    pub served_row : (end : End) → Known run lesson end → IsWritten run end → IsTrue run.files_tell → ¬ AreNotOfRun run.words → run.status ≡ Done → ServesSome (call_of run lesson)
+    served_row (Says line) known written told form done =
+        let is = said_with line Done tt written.0 done in
+        absurd (form (unserved line (known.reached told) is.0))
+    served_row (Opens kinds a k) known written told form done = (serving kinds a k known).serves told
+    served_row Lacks known written told form done = absurd (cc (written.0, done))
 
-  pub merges_row : (end : End) → Known run lesson end → IsWritten run end → IsTrue run.files_tell → MergesFiles (call_of run lesson) → (run.status ≡ Done) ⊎ IsOutside run.status
-  merges_row end known written told m = merges_so m end known written told
+    stored_done : (task : Task) (out : List ℕ) (kinds : List TileKind) (a : TreeAutomaton) → Ask run.words task → StoresAs task out → MakesFor run.before.contents lesson task kinds a
+        → (line : Line) → Known run lesson (Says line) → IsTrue run.files_tell → status_of line ≡ Done → MaySay (call_of run lesson) line → run.after.contents out ≡ Some (rules_text a)
+    stored_done task out kinds a ask named makes line known told done (due l is_due) =
+        let same : l ≡ Accepted (length a.states) (length a.corners) = one_line below (call_of run lesson) l (Accepted (length a.states) (length a.corners)) is_due (accepted_due task kinds a ask makes) in
+        known.stored told task out kinds a ask named makes (ap Says same)
+    stored_done task out kinds a ask named makes line known told done (unread role fetches) = absurd (cc done)
+    stored_done task out kinds a ask named makes line known told done (unstored stores) = absurd (cc done)
+
+    stored_broken : (task : Task) (out : List ℕ) (kinds : List TileKind) (a : TreeAutomaton) → Ask run.words task → StoresAs task out → MakesFor run.before.contents lesson task kinds a
+        → (line : Line) → Known run lesson (Says line) → IsTrue run.files_tell → BeginsLine run lesson line → MaySay (call_of run lesson) line → (run.after.contents out ≡ Some (rules_text a)) ⊎ BeginsFault run lesson
+    stored_broken task out kinds a ask named makes line known told begins (due l is_due) =
+        let same : l ≡ Accepted (length a.states) (length a.corners) = one_line below (call_of run lesson) l (Accepted (length a.states) (length a.corners)) is_due (accepted_due task kinds a ask makes) in
+        inl (known.stored told task out kinds a ask named makes (ap Says same))
+    stored_broken task out kinds a ask named makes line known told begins (unread role fetches) = inr (record { line = FileFault role; fault = inl (role, refl); begins = begins })
+    stored_broken task out kinds a ask named makes line known told begins (unstored stores) = inr (record { line = StoreFault; fault = inr refl; begins = begins })
+
+    -- the rules that are made were stored before their line was written
+    pub stored_row : (end : End) → Known run lesson end → IsWritten run end → IsTrue run.files_tell → (task : Task) (out : List ℕ) (kinds : List TileKind) (a : TreeAutomaton)
+        → Ask run.words task → StoresAs task out → MakesFor run.before.contents lesson task kinds a → StoresRules run lesson out a
+    stored_row (Says line) known written told task out kinds a ask named makes = record {
+      at_done = λ done. stored_done task out kinds a ask named makes line known told (said_with line Done tt written.0 done).0 (known.reached told);
+      at_write_fault = λ broke. stored_broken task out kinds a ask named makes line known told (begun line known written.0 broke) (known.reached told);
+    }
+    stored_row (Opens ks b k) known written told task out kinds a ask named makes =
+        absurd ((known.ready ks b k refl).0 (not_of_run below run.words task ask (to_make run.before.contents lesson task kinds a makes)))
+    stored_row Lacks known written told task out kinds a ask named makes = record { at_done = λ done. absurd (cc (written.0, done)); at_write_fault = λ broke. absurd (cc (written.0, broke)) }
+
+    making : (task : Task) → Ask run.words task → IsToMake task → {line : Line} → MaySay (call_of run lesson) line → status_of line ≡ Done → IsMaking task line
+    making task ask make (due line is_due) done = making_line task make (row_of below (call_of run lesson) task ask is_due) done
+    making task ask make (unread role fetches) done = absurd (cc done)
+    making task ask make (unstored stores) done = absurd (cc done)
+
+    pub made_so : (end : End) → Known run lesson end → IsWritten run end → IsTrue run.files_tell → (task : Task) → Ask run.words task → IsToMake task → run.status ≡ Done → TellsMade run lesson task
+    made_so (Says line) known written told task ask make done =
+        let is = said_with line Done tt written.0 done in
+        let m = making task ask make (known.reached told) is.0 in
+        record {
+          kinds = m.kinds;
+          automaton = m.automaton;
+          makes = m.makes;
+          written = subst (λ (l : Line). Writes run (text_of l)) m.is is.1;
+          stored = λ file named. (stored_row (Says line) known written told task file m.kinds m.automaton ask named m.makes).at_done done;
+        }
+    made_so (Opens kinds a k) known written told task ask make done = absurd ((known.ready kinds a k refl).0 (not_of_run below run.words task ask make))
+    made_so Lacks known written told task ask make done = absurd (cc (written.0, done))
+
+    -- where two files can be merged no line is due but that of what is left
+    module _ (m : MergesFiles (call_of run lesson)) where
+      refused_too : (line : Line) → IsRules run.before.contents m.kinds m.rules (Refused line) → ⊥
+      refused_too line refused =
+          let same = one_rules below run.before.contents m.kinds m.rules refused (rules_loaded m.rules_bytes m.automaton m.holds_rules m.rules_spelling m.accepted) in
+          absurd (cc same)
+
+      merges_line : {line : Line} → MergeRow run.before.contents m.tess m.rules line → status_of line ≡ Done
+      merges_line (merge_no_tess line is) = absurd (not_refused_too below run.before.contents m.tess (tess_loaded m.tess_bytes m.kinds m.holds_tess m.tess_spelling m.valid) is)
+      merges_line (merge_no_rules kinds line is refused) =
+          let same = one_loaded below run.before.contents m.tess is (tess_loaded m.tess_bytes m.kinds m.holds_tess m.tess_spelling m.valid) in
+          absurd (refused_too line (subst (λ (ks : List TileKind). IsRules run.before.contents ks m.rules (Refused line)) same refused))
+      merges_line (merge_accepted kinds a merges) = refl
+
+      merges_due : (line : Line) → MaySay (call_of run lesson) line → EndsSo (status_of line)
+      merges_due line (due l is_due) = inl (merges_line (row_of below (call_of run lesson) (MergeRules m.tess m.rules m.out) m.form is_due))
+      merges_due line (unread role fetches) = inr tt
+      merges_due line (unstored stores) = inr tt
+
+      merges_so : (end : End) → Known run lesson end → IsWritten run end → IsTrue run.files_tell → EndsSo run.status
+      merges_so (Says line) known written told = so_said line (merges_due line (known.reached told)) written.0
+      merges_so (Opens kinds a k) known written told = absurd ((known.ready kinds a k refl).0 (not_of_run below run.words (MergeRules m.tess m.rules m.out) m.form tt))
+      merges_so Lacks known written told = inr (between written.0 tt)
+
+    pub merges_row : (end : End) → Known run lesson end → IsWritten run end → IsTrue run.files_tell → MergesFiles (call_of run lesson) → (run.status ≡ Done) ⊎ IsOutside run.status
+    merges_row end known written told m = merges_so m end known written told

@@ -8,3 +8,4 @@ pub mod Promise
 pub mod Effects
 pub mod Ending
 pub mod Laws
+pub mod Below

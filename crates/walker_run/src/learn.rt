@@ -8,6 +8,7 @@ ghost use Rattle.call_words.specs.Forms.{name_of};
 ghost use Rattle.walker_run.specs.Effects.{files_seen, teacher_seen, end_of, IsCarriedOut};
 ghost use Rattle.walker_run.specs.Effects.{KeepsRules};
 
+use crate::below::laws_below;
 use crate::line::Line;
 use crate::load::{learn_rules, load_tess};
 use crate::stop::Stop;
@@ -37,6 +38,7 @@ pub fn learn<F: Files, T: Teacher>(
         (teacher_seen T.give_ups T.last teacher.new)
         (LearnRules tess.now cells (name_of out.entry)) (end_of result) }
 {
+    laws_below();
     let tess = load_tess(alloc, files, tess)?;
     let rules = learn_rules(alloc, teacher, &tess, cells)?;
     keep_rules(alloc, files, &rules, out)

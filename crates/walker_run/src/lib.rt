@@ -2,6 +2,7 @@
 //! or answers the commands of the input.
 #![tactic(auto)]
 
+mod below;
 pub mod laws;
 mod learn;
 mod line;

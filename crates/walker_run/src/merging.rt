@@ -3,6 +3,7 @@ ghost use Rattle.std.specs.Prelude.{◌≡◌};
 ghost use Rattle.call_words.specs.Tasks.{MergeRules};
 ghost use Rattle.walker_run.specs.Effects.{TeacherSeen, files_seen, end_of, IsCarriedOut};
 
+use crate::below::laws_below;
 use crate::learn::keep_rules;
 use crate::load::{load_rules, load_tess};
 use crate::stop::Stop;
@@ -26,6 +27,7 @@ pub fn merge_rules<F: Files>(
         (files_seen F.contents F.fetch_faults F.store_faults files.new)
         seen seen (MergeRules tess.now rules.now out.now) (end_of result) }
 {
+    laws_below();
     let tess = load_tess(alloc, files, tess)?;
     let rules = load_rules(alloc, files, tess, rules)?;
     let merged = merge(alloc, &rules)?;

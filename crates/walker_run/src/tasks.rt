@@ -13,6 +13,7 @@ use crate::line::Line;
 use crate::load::{learn_rules, load_kind, load_rules, load_tess};
 use crate::merging::merge_rules;
 use crate::stop::Stop;
+use call_words::laws::asked_law;
 use call_words::{Form, Origin, WordsFault, read_words};
 use state_learner::Teacher;
 use std::alloc::Global;
@@ -197,6 +198,8 @@ pub fn decide<F: Files, T: Teacher>(
     ensures unfetched { HaveNoForm (map string_bytes words.now) → files.new ≡ files.old }
     ensures untaught { AskNoTeacher (map string_bytes words.now) → teacher.new ≡ teacher.old }
 {
+    // No words ask for cells out of their range: a law, that this call cites.
+    asked_law();
     let form = match read_words(alloc, words) {
         Ok(form) => form,
         Err(WordsFault::Usage) => return Err(Stop::Say(Line::Usage)),

@@ -10,6 +10,7 @@ ghost use Rattle.walker_run.specs.Promise.{KeepsPromise};
 ghost use Rattle.walker_run.specs.Lines.{IsRefusal};
 ghost use Rattle.walker_run.specs.Ending.{Ends};
 
+use crate::below::laws_below;
 use crate::line::Line;
 use crate::say::say;
 use crate::serve::serve_walkers;
@@ -70,6 +71,8 @@ pub fn run<F: Files, I: Source, O: Sink, T: Teacher>(
 {
     // What walks say of the output the tree of the rules says too: a law, that this call cites.
     line_server::laws::readings();
+    // And the table tells one thing: so its rows are read in one direction.
+    laws_below();
     carry_through(alloc, words, files, input, out, teacher)
 }
 
@@ -106,6 +109,7 @@ fn carry_through<F: Files, I: Source, O: Sink, T: Teacher>(
     ensures unread_at_refusal { IsRefusal result → input.new ≡ input.old }
     ensures untaught { AskNoTeacher (map string_bytes words.now) → teacher.new ≡ teacher.old }
 {
+    laws_below();
     match decide(alloc, words, files, teacher) {
         Ok(Work::Say(line)) => say(alloc, &line, out),
         Ok(Work::Serve { rules, kind }) => serve_walkers(alloc, &rules, kind, input, out),

@@ -15,7 +15,7 @@ returns-in_err-tess g c =
     (λ line is told. tess_fits _ _ (LearnRules c.args.tess.now c.args.cells (name_of c.args.out)) c.args.tess.now line check_no_tess (c.in_err-tess.ensures.refused told line (ap Err is)))
     (λ line is told kinds a makes same. elim (c.in_err-tess.ensures.refused told line (ap Err is)) [
       | inl fault ↦ absurd (cc (fault, same))
-      | inr refused ↦ not_refused_too (g.F.Files.contents c.args.files.now) c.args.tess.now makes.loaded refused
+      | inr refused ↦ not_refused_too c.laws_below.ensures (g.F.Files.contents c.args.files.now) c.args.tess.now makes.loaded refused
     ])
 
 pub returns-in_err-rules : goal.returns-in_err-rules
@@ -27,9 +27,9 @@ returns-in_err-rules g c =
     (λ line is. c.in_err-rules.ensures.meaning line (ap Err is))
     (λ line is told. fits_row line (check_no_rules c.in_ok-tess.tess line (c.in_ok-tess.ensures.ok told) (c.in_err-rules.ensures.refused line (ap Err is))))
     (λ line is told kinds a makes. no_making (lesson_of (Err c.in_err-rules.field-0.0)) c.in_ok-tess.tess kinds c.args.cells line a
-    (one_loaded (g.F.Files.contents c.args.files.now) c.args.tess.now (c.in_ok-tess.ensures.ok told) makes.loaded) (c.in_err-rules.ensures.refused line (ap Err is)) makes.made)
+    (one_loaded c.laws_below.ensures (g.F.Files.contents c.args.files.now) c.args.tess.now (c.in_ok-tess.ensures.ok told) makes.loaded) (c.in_err-rules.ensures.refused line (ap Err is)) makes.made)
 
 pub returns : goal.returns
 returns g c =
     keeps _ _ _ _ _ _ (LearnRules c.args.tess.now c.args.cells (name_of c.args.out)) (lesson_of (Ok c.in_ok-rules.rules)) c.in_ok-tess.tess c.in_ok-rules.rules.automaton
-    c.in_ok-tess.ensures.effects (λ told. record { loaded = c.in_ok-tess.ensures.ok told; made = c.in_ok-rules.ensures.ok }) (end_of c.keep_rules.result) c.keep_rules.ensures
+    c.in_ok-tess.ensures.effects (λ told. record { loaded = c.in_ok-tess.ensures.ok told; made = c.in_ok-rules.ensures.ok }) c.laws_below.ensures (end_of c.keep_rules.result) c.keep_rules.ensures

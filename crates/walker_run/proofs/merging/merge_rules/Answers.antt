@@ -24,7 +24,7 @@ returns-in_err-tess g c = λ seen.
     (λ line is told. tess_fits _ _ task c.args.tess.now line merge_no_tess (c.in_err-tess.ensures.refused told line (ap Err is)))
     (λ line is told kinds a makes same. elim (c.in_err-tess.ensures.refused told line (ap Err is)) [
       | inl fault ↦ absurd (cc (fault, same))
-      | inr refused ↦ not_refused_too contents c.args.tess.now makes.loaded refused
+      | inr refused ↦ not_refused_too c.laws_below.ensures contents c.args.tess.now makes.loaded refused
     ])
 
 pub returns-in_err-rules : goal.returns-in_err-rules
@@ -43,7 +43,7 @@ returns-in_err-rules g c = λ seen.
     (refusal line is told))
     (λ line is told kinds a makes same. elim (refusal line is told) [
       | inl fault ↦ absurd (cc (fault, same))
-      | inr refused ↦ unmerged contents c.args.tess.now c.args.rules.now kinds tess a line makes (c.in_ok-tess.ensures.ok told) refused
+      | inr refused ↦ unmerged c.laws_below.ensures contents c.args.tess.now c.args.rules.now kinds tess a line makes (c.in_ok-tess.ensures.ok told) refused
     ])
 
 pub returns-in_err-merged : goal.returns-in_err-merged
@@ -63,4 +63,4 @@ returns g c = λ seen.
       read = subst (λ (held : Contents). IsRules held c.in_ok-tess.tess c.args.rules.now (Loaded rules.automaton)) (same_contents _ _ (c.in_ok-tess.ensures.effects.same told)) (c.in_ok-rules.ensures.ok told);
       merged = subst (λ (ks : List TileKind). IsMerged ks rules.automaton c.in_ok-merged.merged.class.items c.in_ok-merged.merged.rules.automaton) c.in_ok-rules.ensures.kinds c.in_ok-merged.ensures.merged;
     })
-    (end_of c.keep_rules.result) c.keep_rules.ensures
+    c.laws_below.ensures (end_of c.keep_rules.result) c.keep_rules.ensures

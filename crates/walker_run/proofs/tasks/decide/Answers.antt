@@ -1,11 +1,10 @@
 use Rattle.std.proofs.Common.{Err, refl, ap}
 use Rattle.call_words.specs.Forms.{task_of}
-use Rattle.call_words.proofs.OneTask.{in_range}
 use Rattle.walker_run.specs.Effects.{end_of, formless, wordless, carried_out}
 use Rattle.walker_run.proofs.tasks.decide.Goals as goal
 
 pub carry_out-requires : goal.carry_out-requires
-carry_out-requires g c = in_range _ (task_of c.in-Ok.form) c.in-Ok.ensures.ok
+carry_out-requires g c = c.asked_law.ensures.in_range _ (task_of c.in-Ok.form) c.in-Ok.ensures.ok
 
 pub returns-in-Err-Usage-clause-decided : goal.returns-in-Err-Usage-clause-decided
 returns-in-Err-Usage-clause-decided g c = formless (c.in-Err-Usage.ensures.usage (ap Err c.in-Err-Usage.field-0-is)) refl

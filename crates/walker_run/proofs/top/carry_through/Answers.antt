@@ -14,4 +14,4 @@ returns-in-Ok-Serve-clause-unasked g c = λ none.
 
 pub returns-in-Ok-Serve-clause-unread : goal.returns-in-Ok-Serve-clause-unread
 returns-in-Ok-Serve-clause-unread g c = λ told line due.
-    absurd (nothing_due _ _ _ _ _ _ c.in-Ok-Serve.rules.kinds c.in-Ok-Serve.rules.automaton c.in-Ok-Serve.kind c.in-Ok-Serve.ensures.decided (ap (λ (w : Work). end_of (Ok w)) c.in-Ok-Serve.field-0-is) told line due)
+    absurd (nothing_due _ _ _ _ _ _ c.in-Ok-Serve.rules.kinds c.in-Ok-Serve.rules.automaton c.in-Ok-Serve.kind c.laws_below.ensures c.in-Ok-Serve.ensures.decided (ap (λ (w : Work). end_of (Ok w)) c.in-Ok-Serve.field-0-is) told line due)
