@@ -1,5 +1,5 @@
 -- To a call at most one line is due, or it serves walkers over one automaton and in the tree of one kind, and never both.
-use Rattle.std.proofs.Common.{◌≡◌, ℕ, ◌<◌, ◌⊎◌, List, length, None, inl, inr, refl, sym, ap, subst, arith}
+use Rattle.std.proofs.Common.{◌≡◌, ℕ, ◌<◌, List, length, None, refl, sym, ap, subst, arith}
 use Rattle.serde_json.specs.Data.{Data}
 use Rattle.tile_model.specs.declared.Letter.{Letter}
 use Rattle.tile_model.specs.Tessellations.{TileKind}
