@@ -1,5 +1,5 @@
 -- What contracts see of the patches of a tessellation.
-use Rattle.std.specs.Prelude.{◌≡◌, ℕ, ◌+◌, ◌%◌, ◌<◌, List, length, sum_by, slice_get, slice_index_or, Option, Some, option_and_then, Bool, true, false}
+use Rattle.std.specs.Prelude.{◌≡◌, ℕ, ◌+◌, ◌%◌, ◌<◌, ◌≤◌, List, length, sum_by, slice_get, slice_index_or, Option, Some, option_and_then, Bool, true, false}
 use Rattle.tile_model.specs.Tessellations.{TileKind, kind_at}
 use Rattle.coincidence.specs.Cells.{name, turn_at}
 use Rattle.coincidence.specs.Tables.{JoinTable, joined_to, kind_of}
@@ -20,6 +20,11 @@ pub record PatchTables : Type 0 where
 -- the number of cells that were made in all patches
 abbrev pub cells_made : List PatchState → ℕ
 cells_made patches = sum_by (λ s. length s.table.origins) patches
+
+-- As many cells may be made in all patches as before, and no more were made.
+pub record KeepsBudget (before after : PatchTables) : Type 0 where
+  pub most : after.most ≡ before.most
+  pub within : cells_made after.patches ≤ after.most
 
 -- the dart that a dart of a patch is joined to
 abbrev pub joined_in_patch : PatchTables → ℕ → ℕ × ℕ → Option (ℕ × ℕ)

@@ -1,5 +1,6 @@
 //! The loop of the learner.
-ghost use Rattle.std.specs.Prelude.{◌≡◌, ◌≤◌, IfOk, IfSome};
+ghost use Rattle.std.specs.Prelude.{◌≡◌, IfOk, IfSome};
+ghost use Rattle.cell_patches.specs.Patches.{KeepsBudget};
 ghost use Rattle.cone_learner.specs.Candidates.{AreAccepted};
 
 use crate::candidates::try_types;
@@ -10,13 +11,6 @@ use cone_questions::{AskFault, Cones, Level, Questions};
 use std::alloc::{AllocError, Global};
 use structure_check::Rules;
 use tile_kinds::Tessellation;
-
-/// What the learner came to: rules, or none, and how many cells it made.
-#[derive(Debug, Drop)]
-pub struct ConeAnswer {
-    pub rules: Option<Rules>,
-    pub cells: u32,
-}
 
 /// What was learnt at one level: rules, or how many cone types there were at last.
 #[derive(Drop)]
@@ -176,33 +170,29 @@ fn learn(
     Ok(ring.rules)
 }
 
-/// Learns rules of a tessellation by its cone types. At most `budget` cells are made. Rules that
-/// are answered are those of this tessellation, and the checker accepted them. That there are none
-/// says nothing: they would take more cells, or the learner found nothing new. Where there are
-/// finitely many tiles, there are none.
+/// Learns rules of a tessellation by its cone types, in patches of it. They may have as many cells
+/// as before, and no more are made in them. Rules that are answered are those of this tessellation,
+/// and the checker accepted them. That there are none says nothing: they would take more cells, or
+/// the learner found nothing new. Where there are finitely many tiles, there are none.
 ///
 /// # Errors
 ///
 /// `AllocError` where there is no memory.
-pub fn learn_cones(
+pub fn learn_cones<'t>(
     alloc: Global,
-    tess: &Tessellation,
-    budget: u32,
-) -> Result<ConeAnswer, AllocError>
-    ensures rules { IfOk result (λ a. IfSome a.rules (AreAccepted tess.now)) }
-    ensures cells { IfOk result (λ a. a.cells ≤ budget) }
+    tess: &'t Tessellation,
+    patches: &mut Patches<'t>,
+) -> Result<Option<Rules>, AllocError>
+    ensures rules { IfOk result (λ o. IfSome o (AreAccepted tess.now)) }
+    ensures cells { KeepsBudget patches.old patches.new }
 {
-    let Some(mut patches) = Patches::start(alloc, tess, budget)? else {
-        return Ok(ConeAnswer {
-            rules: None,
-            cells: 0,
-        });
-    };
-    let learnt = learn(alloc, tess, &mut patches);
-    let cells = patches.made();
+    let learnt = learn(alloc, tess, patches);
+    // That there are no more cells than may be is told with their number: it is read for the proof
+    // alone.
+    let _made = patches.made();
     match learnt {
-        Ok(rules) => Ok(ConeAnswer { rules, cells }),
-        Err(AskFault::Full) => Ok(ConeAnswer { rules: None, cells }),
+        Ok(rules) => Ok(rules),
+        Err(AskFault::Full) => Ok(None),
         Err(AskFault::Memory) => Err(AllocError),
     }
 }

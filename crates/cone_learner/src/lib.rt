@@ -10,4 +10,4 @@ mod learner;
 mod limits;
 mod refining;
 
-pub use learner::{ConeAnswer, learn_cones};
+pub use learner::learn_cones;

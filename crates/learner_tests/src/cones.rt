@@ -1,7 +1,8 @@
 // Tessellations with the numbers of states and corner types, and of the cells that were made, that
 // another program found; and some with no rules.
 use crate::tilings::{alike, rectified, regular, tessellation, truncated};
-use cone_learner::{ConeAnswer, learn_cones};
+use cell_patches::Patches;
+use cone_learner::learn_cones;
 use std::alloc::{AllocError, Global};
 use std::test::Fail;
 use tile_kinds::Kind;
@@ -12,12 +13,14 @@ fn learnt(alloc: Global, kinds: Vec<Kind>, budget: u32) -> Result<(usize, usize,
     let Some(t) = tessellation(kinds) else {
         return Ok((0, 0, u32::MAX));
     };
-    let ConeAnswer { rules, cells } = learn_cones(alloc, &t, budget)?;
-    let Some(rules) = rules else {
-        return Ok((0, 0, cells));
+    let Some(mut patches) = Patches::start(alloc, &t, budget)? else {
+        return Ok((0, 0, 0));
+    };
+    let Some(rules) = learn_cones(alloc, &t, &mut patches)? else {
+        return Ok((0, 0, patches.made()));
     };
     let automaton = rules.automaton();
-    Ok((automaton.states.len(), automaton.corners.len(), cells))
+    Ok((automaton.states.len(), automaton.corners.len(), patches.made()))
 }
 
 /// Heptagons and hexagons, heptagons with their corners cut off, and triangles and heptagons, which

@@ -1,6 +1,7 @@
 // The rules that both ways of learning find have the same names, as many in each ring as another
 // program counted.
 use crate::tilings::{rectified, tessellation, truncated};
+use cell_patches::Patches;
 use cone_learner::learn_cones;
 use regular_maker::{RegFault, regular as regular_rules};
 use rules_data::{Automaton, Rule};
@@ -78,7 +79,10 @@ fn common_ring(alloc: Global, kinds: Vec<Kind>, distance: u8) -> Result<usize, A
     let Ok(by_regions) = learn_by_regions(alloc, &t, 50_000) else {
         return Ok(0);
     };
-    let Some(by_cones) = learn_cones(alloc, &t, 50_000)?.rules else {
+    let Some(mut patches) = Patches::start(alloc, &t, 50_000)? else {
+        return Ok(0);
+    };
+    let Some(by_cones) = learn_cones(alloc, &t, &mut patches)? else {
         return Ok(0);
     };
     let a = ring(alloc, &by_regions, distance)?;

@@ -1,21 +1,24 @@
 //! `learn`: rules for a tessellation, or why there are none.
 ghost use Rattle.std.specs.Prelude.{◌≡◌, ◌≤◌, ◌↔◌, ℕ, IfOk, IfErr, IsErrOf};
+ghost use Rattle.cell_patches.specs.Patches.{KeepsBudget};
 ghost use Rattle.regular_maker.specs.Regular.{IsRegular, IsInfinite, p_of, q_of};
 ghost use Rattle.state_learner.specs.Learning.{AreLearnt, IsFault, IsSphere};
 
 use crate::by_regions::learn_by_regions;
 use crate::fault::LearnFault;
+use cell_patches::Patches;
 use cone_learner::learn_cones;
 use regular_maker::{RegFault, regular};
 use std::alloc::Global;
 use structure_check::Rules;
 use tile_kinds::Tessellation;
 
-/// Rules for a tessellation, with at most `budget` cells in all its regions together, 1 to
-/// 1,000,000. A regular tessellation that has infinitely many tiles gets exactly the rules of
-/// {p,q}, whatever the budget. For any other one rules are looked for by cone types, with at most
-/// as many cells; where none are found, a region is grown round a tile of each kind, or of as many
-/// kinds as the budget, in turns, and candidates over them are handed to the checker.
+/// Rules for a tessellation, with at most `budget` cells, 1 to 1,000,000, in each of two ways. A
+/// regular tessellation that has infinitely many tiles gets exactly the rules of {p,q}, whatever
+/// the budget. For any other one rules are looked for by cone types, in patches with at most
+/// `budget` cells together; where none are found, a region is grown round a tile of each kind, or
+/// of as many kinds as the budget, in turns, with at most `budget` cells together, and candidates
+/// over them are handed to the checker.
 ///
 /// # Errors
 ///
@@ -40,7 +43,8 @@ pub fn learn<'t>(alloc: Global, t: &'t Tessellation, budget: u32) -> Result<Rule
     }
 }
 
-/// Rules for a tessellation that is not regular: by cone types, or else by regions.
+/// Rules for a tessellation that is not regular: by cone types, in patches with at most `budget`
+/// cells, or else by regions.
 fn learn_irregular<'t>(
     alloc: Global,
     t: &'t Tessellation,
@@ -52,7 +56,29 @@ fn learn_irregular<'t>(
     ensures rules { IfOk result (AreLearnt t.now) }
     ensures fault { IfErr result (IsFault t.now budget) }
 {
-    match learn_cones(alloc, t, budget)?.rules {
+    match Patches::start(alloc, t, budget)? {
+        Some(mut patches) => learn_in(alloc, t, &mut patches, budget),
+        None => learn_by_regions(alloc, t, budget),
+    }
+}
+
+/// Rules for a tessellation that is not regular: by cone types, in patches that may have `budget`
+/// cells, or else by regions with `budget` cells of their own.
+fn learn_in<'t>(
+    alloc: Global,
+    t: &'t Tessellation,
+    patches: &mut Patches<'t>,
+    budget: u32,
+) -> Result<Rules, LearnFault<'t>>
+    requires irregular { ¬ (IsRegular t.now) }
+    requires at_least { 1 ≤ budget }
+    requires at_most { budget ≤ 1000000 }
+    requires most { patches.old.most ≡ budget }
+    ensures rules { IfOk result (AreLearnt t.now) }
+    ensures fault { IfErr result (IsFault t.now budget) }
+    ensures cells { KeepsBudget patches.old patches.new }
+{
+    match learn_cones(alloc, t, patches)? {
         Some(rules) => Ok(rules),
         None => learn_by_regions(alloc, t, budget),
     }
