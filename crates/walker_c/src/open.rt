@@ -8,12 +8,10 @@ ghost use Rattle.walker_c.specs.Opening.{IsOpening, IsLearning, Seats, rules_nam
 
 use crate::held::{Held, RULES, TESS};
 use crate::seat::Seat;
+use call_words::MOST_CELLS;
 use state_learner::Learner;
 use std::alloc::Global;
 use walker_run::{Line, Stop, Work, open_file, open_taught};
-
-/// The most cells that may be made to learn from.
-const MOST_CELLS: u32 = 1_000_000;
 
 /// What the program's `run TESS K --rules RULES` comes to over files that hold these bytes.
 pub(crate) fn by_file(alloc: Global, tess: &[u8], rules: &[u8], kind: u32) -> Result<Work, Stop>
