@@ -20,7 +20,11 @@ fn learnt(alloc: Global, kinds: Vec<Kind>, budget: u32) -> Result<(usize, usize,
         return Ok((0, 0, patches.made()));
     };
     let automaton = rules.automaton();
-    Ok((automaton.states.len(), automaton.corners.len(), patches.made()))
+    Ok((
+        automaton.states.len(),
+        automaton.corners.len(),
+        patches.made(),
+    ))
 }
 
 /// Heptagons and hexagons, heptagons with their corners cut off, and triangles and heptagons, which
