@@ -2,7 +2,8 @@
 -- to one outcome, and words to one task.
 use Rattle.std.specs.Prelude.{◌≡◌, ℕ, List}
 use Rattle.tree_model.specs.Automata.{TreeAutomaton}
-use Rattle.tess_text.specs.Laws.{OneBadLine, GrammarHasNoBadLine, OneSpelling, SpeltIsNotRefused, OneRefusal}
+use Rattle.tess_text.specs.Laws.{OneBadLine, GrammarHasNoBadLine, OneSpelling}
+use Rattle.tess_text.specs.Laws.{SpeltIsNotRefused, OneRefusal}
 use Rattle.rules_file.specs.Spelling.{IsRulesFile}
 use Rattle.rules_file.specs.Laws.{SpeltDoesNotFail, OneFirstFault}
 use Rattle.structure_check.specs.Laws.{BrokenRefutes, OneFirstBroken}
