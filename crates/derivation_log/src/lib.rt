@@ -3,6 +3,9 @@
 //! Nothing is searched: a log is what the walk along the contour of the tree writes as it goes.
 #![tactic(auto)]
 
+mod draft;
 mod making;
+mod pen;
+mod place;
 
 pub use making::make_log;

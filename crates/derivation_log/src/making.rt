@@ -1,13 +1,17 @@
 //! The log of two walks.
 ghost use Rattle.std.specs.Prelude.{◌<◌, ◌⊎◌, All, length, IfOk, IfSome, IfNone, IsErrOf};
 ghost use Rattle.tile_model.specs.Relation.{Lead, AreRelated};
+ghost use Rattle.tree_model.specs.Positions.{root, Leads};
+ghost use Rattle.spot_laws.specs.Spots.{position};
 ghost use Rattle.log_model.specs.LogTexts.{HasText};
 ghost use Rattle.derivation_log.specs.Passing.{PassesFar};
 
+use crate::pen::{accepted, log_to_word};
 use log_model::Change;
 use std::alloc::Global;
-use step_engine::StepFault;
+use step_engine::{StepFault, root_spot, walk};
 use structure_check::Rules;
+use turn_rules::Spot;
 use walk_words::Walk;
 
 /// The log that leads from the walk `u` to the walk `w`, both from side 0 of a kind, which is one of the tessellation.
@@ -18,7 +22,7 @@ use walk_words::Walk;
 ///
 /// `Deep` comes exactly where a beginning of `u` or of `w` ends at a tile that lies more than 4,000 crossings from the
 /// first one, whether the walks are related or not.
-/// `Memory` comes also where a place in a walk that the log tells is not below 2^64.
+/// `Memory` comes also where a place that the log would tell is not below 2^64.
 pub fn make_log(
     alloc: Global,
     r: &Rules,
@@ -37,5 +41,28 @@ pub fn make_log(
     ensures too_deep { PassesFar r.now.kinds kind u.now ⊎ PassesFar r.now.kinds kind w.now
         → IsErrOf result StepFault.Deep ⊎ IsErrOf result StepFault.Memory }
 {
-    Err(StepFault::Memory)
+    let first = arrive(alloc, r, kind, u)?;
+    let second = arrive(alloc, r, kind, w)?;
+    if first.name() != second.name() || first.spin() != second.spin() {
+        return Ok(None);
+    }
+    let mut log = log_to_word(alloc, r, kind, u)?;
+    let other = log_to_word(alloc, r, kind, w)?;
+    log.write_back(&other)?;
+    Ok(Some(log.into_changes()))
+}
+
+/// Where a walk leads from side 0 of the root of a kind, which is one of the tessellation.
+fn arrive(alloc: Global, r: &Rules, kind: u8, w: &Walk) -> Result<Spot, StepFault>
+    requires { kind < length r.now.kinds }
+    ensures leads { IfOk result (λ s.
+        Leads r.now.kinds r.now.automaton kind root w.now (position s)) }
+    ensures deep { IsErrOf result StepFault.Deep → PassesFar r.now.kinds kind w.now }
+    ensures too_deep { PassesFar r.now.kinds kind w.now
+        → IsErrOf result StepFault.Deep ⊎ IsErrOf result StepFault.Memory }
+{
+    accepted(r);
+    let mut spot = root_spot(alloc, r, kind)?;
+    walk(&mut spot, r, w)?;
+    Ok(spot)
 }
