@@ -1,15 +1,16 @@
 -- How a pen goes: from which position to which, and what it writes.
-use Rattle.std.specs.Prelude.{◌≡◌, ℕ, Bool, true, List, ◌∷◌, ◌++◌}
+use Rattle.std.specs.Prelude.{◌≡◌, ℕ, Bool, true, List, [], ◌∷◌, ◌++◌, length, nat_eq, if◌then◌else◌}
 use Rattle.tile_model.specs.declared.Letter.{Letter}
 use Rattle.tile_model.specs.declared.Letter.TheVariants.{X}
 use Rattle.tile_model.specs.Relation.{Change, Lead}
 use Rattle.structure_check.specs.Rules.{TreeRules}
 use Rattle.tree_model.specs.Contours.{Mark}
 use Rattle.tree_model.specs.Positions.{Position, turn_left, turn_right, hop, mark, rule_of, MatchesLeftwards, LiesAcross, Moves}
+use Rattle.tree_model.specs.Names.{word}
 use Rattle.tree_model.specs.Places.{position_word}
 use Rattle.tree_laws.specs.Directions.{Goes, most_open}
 use Rattle.spot_laws.specs.Spots.{IsSpot, IsAt, position, root_kind}
-use Rattle.log_laws.specs.Logs.{turn_log, right_log, across_log, contour_log, crossing_log}
+use Rattle.log_laws.specs.Logs.{inserted, deleted, turn_log, across_log, contour_log, crossing_log}
 use Rattle.derivation_log.specs.Drafts.{IsWritten}
 use Rattle.derivation_log.specs.declared.pen.Pen.{Pen}
 
@@ -41,10 +42,18 @@ HasTurnedLeft rules p p' =
     HasWritten rules p (turn_left rules.kinds rules.automaton (home rules p) (at p))
     (turn_log rules.kinds rules.automaton (home rules p) (at p)) p'
 
+-- what is written before a turn to the right: where it passes the first side, a full turn is inserted
+abbrev pub open_log : Position → List Change
+open_log p = if nat_eq p.side 0 then inserted (length (word p.name)) 4 ∷ [] else []
+
+-- behind the turn to q left and right is deleted
+abbrev pub right_log : (p q : Position) → List Change
+right_log p q = open_log p ++ (deleted (length (position_word q)) 2 ∷ [])
+
 abbrev pub HasTurnedRight : TreeRules → (p p' : Pen) → Type 0
 HasTurnedRight rules p p' =
     HasWritten rules p (turn_right rules.kinds rules.automaton (home rules p) (at p))
-    (right_log rules.kinds rules.automaton (home rules p) (at p)) p'
+    (right_log (at p) (turn_right rules.kinds rules.automaton (home rules p) (at p))) p'
 
 -- across a side of the tree
 abbrev pub HasHopped : TreeRules → (p p' : Pen) → Type 0

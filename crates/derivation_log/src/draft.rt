@@ -1,10 +1,9 @@
 //! A log that is being written.
 ghost use Rattle.std.specs.Prelude.{◌≡◌, ◌≤◌, All, [], ◌∷◌, ◌++◌, OnOk, IsTrue, List};
 ghost use Rattle.tile_model.specs.Relation.{Change as Entry};
-ghost use Rattle.tile_model.proofs.Relations.{reverted, all_reverted};
 ghost use Rattle.log_model.specs.LogTexts.{HasText};
 ghost use Rattle.log_laws.specs.Logs.{inserted, deleted};
-ghost use Rattle.derivation_log.specs.Drafts.{IsWritten};
+ghost use Rattle.derivation_log.specs.Drafts.{undoing, IsWritten, IsWrittenBack};
 
 use log_model::Change;
 use std::alloc::{AllocError, Global};
@@ -72,7 +71,7 @@ impl Draft {
 
     /// Writes the changes of another log turned round, the last one first, so that they lead back.
     pub(crate) fn write_back(&mut self, log: &Draft) -> Result<(), AllocError>
-        ensures { OnOk result (IsWritten self.old (all_reverted log.now) self.new) }
+        ensures { OnOk result (IsWrittenBack self.old log.now self.new) }
     {
         let mut rest = log.changes.as_slice();
         while let Some((last, before)) = rest.split_last() {
@@ -84,7 +83,7 @@ impl Draft {
 
     /// The changes.
     pub(crate) fn into_changes(self) -> Vec<Change>
-        ensures value { result.items ≡ self.now }
+        ensures value { result.items ≡ self }
         ensures texts { All HasText result.items }
     {
         self.changes
@@ -114,7 +113,7 @@ impl Draft {
 
 /// The change that takes a change back.
 fn turned_round(change: Change) -> Change
-    ensures { result ≡ reverted change }
+    ensures { result ≡ undoing change }
 {
     Change {
         at: change.at,

@@ -9,7 +9,8 @@ ghost use Rattle.structure_check.specs.Rules.{AreSound};
 ghost use Rattle.spot_laws.specs.Spots.{IsSpot};
 ghost use Rattle.step_engine.specs.Crossings.{CrossesDeep};
 ghost use Rattle.derivation_log.specs.Passing.{PassesFar};
-ghost use Rattle.derivation_log.specs.Pens.{at, mark_at, HasTurnedLeft, HasTurnedRight, HasHopped};
+ghost use Rattle.derivation_log.specs.Drafts.{IsWritten};
+ghost use Rattle.derivation_log.specs.Pens.{at, mark_at, open_log, HasTurnedLeft, HasTurnedRight, HasHopped};
 ghost use Rattle.derivation_log.specs.Pens.{HasMoved, HasRounded, HasCrossed, HasStepped, most_open_at};
 
 use crate::draft::{Draft, FULL_TURN, LEFT_AND_RIGHT, ROUND_CORNER, THERE_AND_BACK};
@@ -46,11 +47,22 @@ impl Pen {
         requires { IsSpot r.now self.old.place }
         ensures { OnOk result (HasTurnedRight r.now self.old self.new) }
     {
+        self.open_turn()?;
+        self.place.turn_right(r);
+        self.log.delete(self.place.end()?, LEFT_AND_RIGHT)?;
+        Ok(())
+    }
+
+    /// Before a turn to the right: where it passes the first side, a full turn is inserted.
+    fn open_turn(&mut self) -> Result<(), AllocError>
+        ensures place { OnOk result (self.new.place ≡ self.old.place) }
+        ensures log { OnOk result
+            (IsWritten self.old.log (open_log (at self.old)) self.new.log) }
+    {
         if self.place.spin() == 0 {
             self.log.insert(self.place.letters(), FULL_TURN)?;
         }
-        self.place.turn_right(r);
-        self.log.delete(self.place.end()?, LEFT_AND_RIGHT)
+        Ok(())
     }
 
     /// Goes across the faced side, which is one of the tree. On the way to the parent there and back is deleted.
@@ -60,10 +72,12 @@ impl Pen {
         ensures { OnOk result (HasHopped r.now self.old self.new) }
     {
         if let Rule::Child(_) = self.place.rule(r) {
-            return self.place.down(r);
+            self.place.down(r)?;
+            return Ok(());
         }
         self.place.up(r);
-        self.log.delete(self.place.end()?, THERE_AND_BACK)
+        self.log.delete(self.place.end()?, THERE_AND_BACK)?;
+        Ok(())
     }
 
     /// One move along the contour: a turn to the left, and then across a side of the tree, or past a bracket, which is

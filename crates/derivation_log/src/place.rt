@@ -46,7 +46,7 @@ impl Place {
 
     /// A spot, the word of whose name is counted.
     fn measured(spot: Spot) -> Result<Place, AllocError>
-        ensures { IfOk result (λ place. place ≡ spot.now) }
+        ensures { IfOk result (λ place. place ≡ spot) }
     {
         let letters = count_letters(spot.name().sides())?;
         Ok(Place { spot, letters })
