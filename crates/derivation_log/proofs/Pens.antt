@@ -1,15 +1,19 @@
 -- What a pen writes: on turns, across sides of the tree, and on a move along the contour.
 use Rattle.std.proofs.Common.{◌≡◌, ◌≢◌, ℕ, zero, suc, ◌+◌, ◌≤◌, Bool, true, false, nat_eq, List, [], ◌∷◌, ◌++◌, length, refl, sym, ap, ap₂, ◌∙◌, subst, arith, append-nil}
+use Rattle.std.proofs.lemmas.List.{length_push}
 use Rattle.tile_model.specs.Tessellations.{TileKind}
 use Rattle.tile_model.specs.Relation.{Change}
-use Rattle.structure_check.specs.Rules.{TreeRules}
+use Rattle.structure_check.specs.Rules.{TreeRules, AreSound}
+use Rattle.tree_model.specs.declared.Rule.{Rule}
+use Rattle.tree_model.specs.declared.Rule.TheVariants.{Parent, Child, Left, Right}
 use Rattle.tree_model.specs.Automata.{TreeAutomaton, side_count}
 use Rattle.tree_model.specs.Contours.{Mark, Tree, Opens, Closes}
 use Rattle.tree_model.specs.Names.{state_of, word}
-use Rattle.tree_model.specs.Positions.{Position, IsPosition, turn_left, turn_right, hop, mark, rule_of}
+use Rattle.tree_model.specs.Positions.{Position, IsPosition, parent, last_side, tree_across, mark_of_rule, turn_left, turn_right, hop, mark, rule_of}
 use Rattle.tree_model.specs.Places.{position_word}
 use Rattle.tree_model.proofs.Sides.{next_last, next_zero}
-use Rattle.spot_laws.specs.Spots.{IsSpot, IsAt, position, root_kind}
+use Rattle.tree_model.proofs.Positions.{make_position, parent_up}
+use Rattle.spot_laws.specs.Spots.{IsSpot, IsAt, IsAtChild, IsAtParent, position, root_kind, faced_rule}
 use Rattle.log_laws.specs.Logs.{inserted, deleted, turn_log, across_log, tree_words, contour_log, logged_at, logged}
 use Rattle.derivation_log.specs.Drafts.{IsWritten}
 use Rattle.derivation_log.specs.Pens.{at, home, mark_at, open_log, HasWritten, HasTurnedLeft, HasTurnedRight, HasHopped, HasMoved}
@@ -56,7 +60,7 @@ module _ (r : TreeRules) where
 
   pub turned_within : (p p' : Pen) → IsSpot r p.place → IsAt r (home r p) (turn_left r.kinds r.automaton (home r p) (at p)) p'.place → p'.place.spin ≢ 0 → p'.log ≡ p.log → HasTurnedLeft r p p'
   turned_within p p' h place n e =
-      let side = λ z. n (ap (λ (q : Position). q.side) place.stands ∙ z) in
+      let side : (turn_left r.kinds r.automaton (home r p) (at p)).side ≢ 0 = λ z. n (ap (λ (q : Position). q.side) place.stands ∙ z) in
       let same = turn_within r.kinds r.automaton (home r p) (at p) h.there side in
       let wrote = subst (λ l. IsWritten p.log [] l) (sym e) (written_none p.log) in
       record { place = place; log = subst (λ l. IsWritten p.log l p'.log) (sym same) wrote }
@@ -99,13 +103,13 @@ module _ (r : TreeRules) where
     move_log : (m : Mark) → mark r.kinds r.automaton K Beside ≡ m → (c : ℕ) → contour_log r.kinds r.automaton K 1 (at p) c ≡ turn_log r.kinds r.automaton K (at p) ++ logged_at Position (turn_left r.kinds r.automaton K) (hop r.kinds r.automaton K) (mark r.kinds r.automaton K) (tree_words r.kinds r.automaton K) Beside (λ z e. []) m c
     move_log m e c = ap (λ n. turn_log r.kinds r.automaton K (at p) ++ logged_at Position (turn_left r.kinds r.automaton K) (hop r.kinds r.automaton K) (mark r.kinds r.automaton K) (tree_words r.kinds r.automaton K) Beside (λ z e. []) n c) e
 
-    pub moved_hop : (c : ℕ) → HasHopped r q s → mark_at r q ≡ Tree → HasMoved r p c false s c
-    moved_hop c h t =
-        let tree = marked Tree t in
-        let there = h.place.stands ∙ ap₂ (λ j z. hop r.kinds r.automaton j z) turn.place.tree turn.place.stands in
+    pub moved_hop : (c : ℕ) → HasHopped r q s → HasMoved r p c false s c
+    moved_hop c h =
+        let tree = marked Tree h.tree in
+        let there = h.written.place.stands ∙ ap₂ (λ j z. hop r.kinds r.automaton j z) turn.place.tree turn.place.stands in
         let wrote = ap₂ (λ j z. across_log (rule_of r.kinds r.automaton j z) (hop r.kinds r.automaton j z)) turn.place.tree turn.place.stands in
         let one = move_log Tree tree c ∙ ap (λ l. turn_log r.kinds r.automaton K (at p) ++ l) (append-nil (across_log (rule_of r.kinds r.automaton K Beside) (hop r.kinds r.automaton K Beside)) ∙ sym wrote) in
-        let both = settled p s (hop r.kinds r.automaton (home r q) (at q)) (turn_log r.kinds r.automaton K (at p) ++ across_log (rule_of r.kinds r.automaton (home r q) (at q)) (hop r.kinds r.automaton (home r q) (at q))) (then p q s Beside (hop r.kinds r.automaton (home r q) (at q)) (turn_log r.kinds r.automaton K (at p)) (across_log (rule_of r.kinds r.automaton (home r q) (at q)) (hop r.kinds r.automaton (home r q) (at q))) turn h) in
+        let both = settled p s (hop r.kinds r.automaton (home r q) (at q)) (turn_log r.kinds r.automaton K (at p) ++ across_log (rule_of r.kinds r.automaton (home r q) (at q)) (hop r.kinds r.automaton (home r q) (at q))) (then p q s Beside (hop r.kinds r.automaton (home r q) (at q)) (turn_log r.kinds r.automaton K (at p)) (across_log (rule_of r.kinds r.automaton (home r q) (at q)) (hop r.kinds r.automaton (home r q) (at q))) turn h.written) in
         record {
           written = subst (λ l. HasWritten r p (at s) l s) (sym one) both;
           goes = record { hopped = λ _. (refl, there, refl); opened = λ o. absurd (cc); closed = λ o. absurd (cc) };
@@ -139,3 +143,39 @@ module _ (r : TreeRules) where
           written = subst (λ l. HasWritten r p (at s) l s) (sym one) (past c (deleted n 1) same turn.place.spot log);
           goes = record { hopped = λ t. absurd (cc); opened = λ t. absurd (cc); closed = λ _. (last, there_past same, count) };
         }
+
+-- a tree side that is no Child side is the side of the parent
+pub parent_rule : (rule : Rule) → mark_of_rule rule ≡ Tree → ((c : ℕ) → rule ≡ Child c → ⊥) → rule ≡ Parent
+parent_rule Parent t n = refl
+parent_rule (Child c) t n = absurd (n c refl)
+parent_rule Left t n = absurd (cc)
+parent_rule Right t n = absurd (cc)
+
+module _ (r : TreeRules) (sound : AreSound r) (p p' : Pen) (h : IsSpot r p.place) where
+  -- the side of the parent is that of no root
+  pub has_parent : faced_rule r p.place ≡ Parent → p.place.name ≢ []
+  has_parent e n =
+      let above = (parent_up r.kinds r.automaton (home r p) sound.valid sound.accepted h.known (at p) h.there e).name in
+      let q = hop r.kinds r.automaton (home r p) (at p) in
+      let l : 0 ≡ length (q.name ++ q.side ∷ []) = ap length (sym n ∙ above) in
+      absurd (omega (arith, l, length_push q.name q.side))
+
+  hopped : (y : Position) (changes : List Change) (rule : Rule) → faced_rule r p.place ≡ rule → mark_of_rule rule ≡ Tree → y ≡ tree_across rule (at p) → changes ≡ across_log rule y → HasWritten r p y changes p' → HasHopped r p p'
+  hopped y changes rule e t there log w =
+      let here : y ≡ hop r.kinds r.automaton (home r p) (at p) = there ∙ ap (λ x. tree_across x (at p)) (sym e) in
+      let wrote = log ∙ ap₂ (λ x z. across_log x z) (sym e) here in
+      record {
+        tree = ap mark_of_rule e ∙ t;
+        written = subst (λ z. HasWritten r p z (across_log (rule_of r.kinds r.automaton (home r p) (at p)) (hop r.kinds r.automaton (home r p) (at p))) p') here (subst (λ l. HasWritten r p y l p') wrote w);
+      }
+
+  pub hopped_down : (c : ℕ) → faced_rule r p.place ≡ Child c → IsAtChild r p.place p'.place → p'.log ≡ p.log → HasHopped r p p'
+  hopped_down c e at log =
+      let wrote = subst (λ l. IsWritten p.log [] l) (sym log) (written_none p.log) in
+      hopped (make_position (p.place.name ++ p.place.spin ∷ []) 0) [] (Child c) e refl refl refl (record { place = at; log = wrote })
+
+  pub hopped_up : (n : ℕ) → faced_rule r p.place ≡ Parent → IsAtParent r p.place p'.place → n ≡ length (position_word (at p')) → IsWritten p.log (deleted n 1 ∷ []) p'.log → HasHopped r p p'
+  hopped_up n e up size log =
+      let q = make_position (parent p.place.name) (last_side p.place.name) in
+      let same = ap (λ m. deleted m 1 ∷ []) (size ∙ ap (λ z. length (position_word z)) up.stands) in
+      hopped q (deleted n 1 ∷ []) Parent e refl refl same (record { place = up; log = log })

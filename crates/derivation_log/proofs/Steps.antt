@@ -1,5 +1,5 @@
 -- A pen that goes by a letter, and by a walk.
-use Rattle.std.proofs.Common.{◌≡◌, ◌≢◌, ℕ, suc, ◌<◌, ◌⊎◌, inl, inr, List, [], ◌∷◌, ◌++◌, length, take, drop, slice_index_or, refl, sym, ap, ap₂, ◌∙◌, subst, arith, append_assoc, append-nil, take_all, take-append-drop}
+use Rattle.std.proofs.Common.{◌≡◌, ◌≢◌, ℕ, suc, ◌<◌, ◌≤◌, ◌⊎◌, inl, inr, List, [], ◌∷◌, ◌++◌, length, take, drop, slice_index_or, refl, sym, ap, ap₂, ◌∙◌, subst, arith, append_assoc, append-nil, take_all, take-append-drop}
 use Rattle.std.proofs.lemmas.Bool.{cases_eq}
 use Rattle.std.proofs.lemmas.List.{take_more, drop_more}
 use Rattle.tile_model.specs.declared.Letter.{Letter}
@@ -14,7 +14,7 @@ use Rattle.tree_model.specs.Places.{position_word, IsPlace}
 use Rattle.tree_model.proofs.Sides.{next_last}
 use Rattle.tree_model.proofs.Positions.{left_right, right_position}
 use Rattle.tree_laws.proofs.Closure.{across_same, across_back, across_position}
-use Rattle.tree_laws.proofs.Walking.{leads_append}
+use Rattle.tree_laws.proofs.Walking.{leads_append, leads_same}
 use Rattle.tree_laws.proofs.Places.{leads_place}
 use Rattle.tree_laws.proofs.Levels.{level}
 use Rattle.spot_laws.specs.Spots.{IsSpot, IsAt, position, root_kind}
@@ -83,7 +83,7 @@ module _ (r : TreeRules) (sound : AreSound r) (p p' : Pen) (h : IsSpot r p.place
           let whole : Goes (inserted (length (word q.name)) 4 ∷ []) (position_word (at p)) (position_word q ++ L ∷ []) = (position_word q ++ L ∷ [], turned, refl) in
           subst (λ c. Goes c (position_word (at p)) (position_word q ++ L ∷ [])) (ap (λ n. inserted n 4 ∷ []) name ∙ sym (first z)) whole
       go (inr z) =
-          let side = λ s. z (sym (ap (λ (y : Position). y.side) back) ∙ s) in
+          let side : (turn_left r.kinds r.automaton K q).side ≢ 0 = λ s. z (sym (ap (λ (y : Position). y.side) back) ∙ s) in
           let log = turn_within r.kinds r.automaton K q there side in
           let l : position_word q ++ L ∷ [] ≡ position_word (at p) = subst (λ c. Goes c (position_word q ++ L ∷ []) (position_word (at p))) log left in
           subst (λ c. Goes c (position_word (at p)) (position_word q ++ L ∷ [])) (sym (inner z)) (sym l)
@@ -92,14 +92,15 @@ module _ (r : TreeRules) (sound : AreSound r) (p p' : Pen) (h : IsSpot r p.place
   stepped_right w =
       stepped R (right_log (at p) (at p')) (record { place = (settled r p p' (turn_right r.kinds r.automaton K (at p)) (right_log (at p) (turn_right r.kinds r.automaton K (at p))) w).place; log = subst (λ z. IsWritten p.log (right_log (at p) z) p'.log) (sym w.place.stands) w.log }) (sym w.place.stands) (λ rest.
           let q = at p' in
-          let open = lead_behind r.kinds (K, 0) (open_log (at p)) (position_word (at p)) (position_word q ++ L ∷ []) (R ∷ rest) (opened q w.place.stands) in
-          let on = subst (λ z. Goes (open_log (at p)) (position_word (at p) ++ R ∷ rest) z) (append_assoc (position_word q) (L ∷ []) (R ∷ rest)) open in
+          let wide = lead_behind r.kinds (K, 0) (open_log (at p)) (position_word (at p)) (position_word q ++ L ∷ []) (R ∷ rest) (opened q w.place.stands) in
+          let on = subst (λ z. Goes (open_log (at p)) (position_word (at p) ++ R ∷ rest) z) (append_assoc (position_word q) (L ∷ []) (R ∷ rest)) wide in
           lead_append r.kinds (K, 0) (open_log (at p)) (deleted (length (position_word q)) 2 ∷ []) (position_word (at p) ++ R ∷ rest) (position_word q ++ (L ∷ R ∷ rest)) (position_word q ++ rest) on (delete_behind r.kinds (K, 0) (position_word q) (L ∷ R ∷ []) rest 2 left_and_right))
 
-  pub crossed_tree : HasHopped r p p' → mark_at r p ≡ Tree → HasCrossed r p p'
-  crossed_tree w t =
-      stepped X (across_log (rule_of r.kinds r.automaton K (at p)) (hop r.kinds r.automaton K (at p))) (settled r p p' (hop r.kinds r.automaton K (at p)) (across_log (rule_of r.kinds r.automaton K (at p)) (hop r.kinds r.automaton K (at p))) w) (in_tree t (sym w.place.stands))
-      (λ rest. subst (λ z. Goes (across_log (rule_of r.kinds r.automaton K (at p)) (hop r.kinds r.automaton K (at p))) (position_word (at p) ++ X ∷ rest) (position_word z ++ rest)) (sym w.place.stands) (hops r.kinds r.automaton K sound.valid sound.accepted h.known (at p) rest h.there t))
+  pub crossed_tree : HasHopped r p p' → HasCrossed r p p'
+  crossed_tree hopped =
+      let w = hopped.written in
+      stepped X (across_log (rule_of r.kinds r.automaton K (at p)) (hop r.kinds r.automaton K (at p))) (settled r p p' (hop r.kinds r.automaton K (at p)) (across_log (rule_of r.kinds r.automaton K (at p)) (hop r.kinds r.automaton K (at p))) w) (in_tree hopped.tree (sym w.place.stands))
+      (λ rest. subst (λ z. Goes (across_log (rule_of r.kinds r.automaton K (at p)) (hop r.kinds r.automaton K (at p))) (position_word (at p) ++ X ∷ rest) (position_word z ++ rest)) (sym w.place.stands) (hops r.kinds r.automaton K sound.valid sound.accepted h.known (at p) rest h.there hopped.tree))
 
   pub crossed_left : HasRounded r p p' → HasCrossed r p p'
   crossed_left w =
@@ -198,3 +199,11 @@ module _ (r : TreeRules) (sound : AreSound r) (k : ℕ) (known : k < length r.ki
         apart = level r.kinds r.automaton k sound.valid sound.accepted known (take i w ++ X ∷ []) d.there (leads_place r.kinds r.automaton k sound.valid sound.accepted known (take i w ++ X ∷ []) d.there leads);
         far = d.deep;
       }
+
+  -- the whole walk is followed
+  pub following_whole : (w items : List Letter) (i : ℕ) (pen : Pen) → length items ≤ i → items ≡ w → Following r k (take i items) pen → (p : Position) → Leads r.kinds r.automaton k root w p → Lead r.kinds (k, 0) pen.log w (position_word p)
+  following_whole w items i pen end e f p leads =
+      let all = subst (λ u. Following r k u pen) (take_all i items end ∙ e) f in
+      let same = leads_same r.kinds r.automaton k sound.valid sound.accepted known w root (at pen) p all.leads leads in
+      let log = subst (λ u. Lead r.kinds (k, 0) pen.log u (position_word (at pen) ++ [])) (append-nil w) (all.log []) in
+      subst (λ u. Lead r.kinds (k, 0) pen.log w u) (append-nil (position_word (at pen)) ∙ ap position_word same) log

@@ -4,7 +4,7 @@ use Rattle.tile_model.specs.declared.Letter.{Letter}
 use Rattle.tile_model.specs.declared.Letter.TheVariants.{X}
 use Rattle.tile_model.specs.Relation.{Change, Lead}
 use Rattle.structure_check.specs.Rules.{TreeRules}
-use Rattle.tree_model.specs.Contours.{Mark}
+use Rattle.tree_model.specs.Contours.{Mark, Tree}
 use Rattle.tree_model.specs.Positions.{Position, turn_left, turn_right, hop, mark, rule_of, MatchesLeftwards, LiesAcross, Moves}
 use Rattle.tree_model.specs.Names.{word}
 use Rattle.tree_model.specs.Places.{position_word}
@@ -56,11 +56,12 @@ HasTurnedRight rules p p' =
     (right_log (at p) (turn_right rules.kinds rules.automaton (home rules p) (at p))) p'
 
 -- across a side of the tree
-abbrev pub HasHopped : TreeRules → (p p' : Pen) → Type 0
-HasHopped rules p p' =
-    HasWritten rules p (hop rules.kinds rules.automaton (home rules p) (at p))
-    (across_log (rule_of rules.kinds rules.automaton (home rules p) (at p))
-    (hop rules.kinds rules.automaton (home rules p) (at p))) p'
+pub record HasHopped (rules : TreeRules) (p p' : Pen) : Type 0 where
+  pub tree : mark_at rules p ≡ Tree
+  pub written :
+      HasWritten rules p (hop rules.kinds rules.automaton (home rules p) (at p))
+      (across_log (rule_of rules.kinds rules.automaton (home rules p) (at p))
+      (hop rules.kinds rules.automaton (home rules p) (at p))) p'
 
 -- one move along the contour, from c open brackets to e
 pub record HasMoved (rules : TreeRules) (p : Pen) (c : ℕ) (done : Bool) (p' : Pen) (e : ℕ) : Type 0

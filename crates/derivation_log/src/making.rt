@@ -1,5 +1,5 @@
 //! The log of two walks.
-ghost use Rattle.std.specs.Prelude.{◌<◌, ◌⊎◌, All, length, IfOk, IfSome, IfNone, IsErrOf};
+ghost use Rattle.std.specs.Prelude.{◌≡◌, ◌↔◌, ◌<◌, ◌⊎◌, All, length, IsTrue, IfOk, IfSome, IfNone, IsErrOf};
 ghost use Rattle.tile_model.specs.Relation.{Lead, AreRelated};
 ghost use Rattle.tree_model.specs.Positions.{root, Leads};
 ghost use Rattle.spot_laws.specs.Spots.{position};
@@ -43,7 +43,7 @@ pub fn make_log(
 {
     let first = arrive(alloc, r, kind, u)?;
     let second = arrive(alloc, r, kind, w)?;
-    if first.name() != second.name() || first.spin() != second.spin() {
+    if !stand_together(&first, &second) {
         return Ok(None);
     }
     let mut log = log_to_word(alloc, r, kind, u)?;
@@ -65,4 +65,11 @@ fn arrive(alloc: Global, r: &Rules, kind: u8, w: &Walk) -> Result<Spot, StepFaul
     let mut spot = root_spot(alloc, r, kind)?;
     walk(&mut spot, r, w)?;
     Ok(spot)
+}
+
+/// Whether two spots stand at one position.
+fn stand_together(first: &Spot, second: &Spot) -> bool
+    ensures { IsTrue result ↔ (position first.now ≡ position second.now) }
+{
+    first.spin() == second.spin() && first.name() == second.name()
 }

@@ -163,11 +163,16 @@ impl Pen {
             → CrossesDeep r.now self.old.place DEEPEST }
     {
         match self.place.rule(r) {
-            Rule::Parent | Rule::Child(_) => self.hop(r)?,
-            Rule::Left => self.go_round(r)?,
-            Rule::Right => self.go_back(alloc, r)?,
+            Rule::Parent | Rule::Child(_) => {
+                self.hop(r)?;
+                Ok(())
+            }
+            Rule::Left => {
+                self.go_round(r)?;
+                Ok(())
+            }
+            Rule::Right => self.go_back(alloc, r),
         }
-        Ok(())
     }
 
     /// On by one letter.
@@ -180,11 +185,16 @@ impl Pen {
     {
         accepted(r);
         match x {
-            Letter::L => self.turn_left(r)?,
-            Letter::R => self.turn_right(r)?,
-            Letter::X => self.cross(alloc, r)?,
+            Letter::L => {
+                self.turn_left(r)?;
+                Ok(())
+            }
+            Letter::R => {
+                self.turn_right(r)?;
+                Ok(())
+            }
+            Letter::X => self.cross(alloc, r),
         }
-        Ok(())
     }
 }
 
