@@ -41,6 +41,7 @@ pub fn make_log(
     ensures too_deep { PassesFar r.now.kinds kind u.now ⊎ PassesFar r.now.kinds kind w.now
         → IsErrOf result StepFault.Deep ⊎ IsErrOf result StepFault.Memory }
 {
+    accepted(r);
     let first = arrive(alloc, r, kind, u)?;
     let second = arrive(alloc, r, kind, w)?;
     if !stand_together(&first, &second) {

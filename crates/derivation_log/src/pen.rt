@@ -143,6 +143,7 @@ impl Pen {
         ensures deep { IsErrOf result StepFault.Deep
             → CrossesDeep r.now self.old.place DEEPEST }
     {
+        accepted(r);
         let across = self.place.across(alloc, r)?;
         let mut forwards = Pen {
             place: across.copy(alloc)?,
