@@ -1,0 +1,5 @@
+//! Tests of the logs of walks, over pentagons, four round each corner.
+#![tactic(auto)]
+
+#[cfg(test)]
+mod logs;
