@@ -9,3 +9,4 @@ pub mod Order
 pub mod Growing
 pub mod Told
 pub mod Keeping
+pub mod Stable

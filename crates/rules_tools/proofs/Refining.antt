@@ -84,6 +84,33 @@ module _ (kinds : List TileKind) (a : TreeAutomaton) (ok : IsAccepted kinds a) w
   pub by_key_apart : (before class : List ℕ) (count : ℕ) → AreApart kinds a before → AreByKey a before class count → AreApart kinds a class
   by_key_apart before class count apart keys s t ls lt other = keys_told before apart s t ls lt (λ e. other ((keys.one s t ls lt).1 e))
 
+  -- Classes are stable where states of one class have one key by classes before, and states that were
+  -- of one class before are of one class.
+  module _ (before class : List ℕ) (one_key : (s t : ℕ) → s < length a.states → t < length a.states → class_of class s ≡ class_of class t → key_of a before s ≡ key_of a before t) (kept : (s t : ℕ) → s < length a.states → t < length a.states → class_of before s ≡ class_of before t → class_of class s ≡ class_of class t) where
+    -- the rules of a state by classes
+    by_rules : (s t i : ℕ) → classed_state a before s ≡ classed_state a before t → with_child (class_of before) (rule_at a s i) ≡ with_child (class_of before) (rule_at a t i)
+    unfolding rule_at
+    by_rules s t i q =
+        sym (mapped (with_child (class_of before)) (state_at a s).rules i Parent)
+        ∙ ap (λ (u : TreeState). slice_index_or u.rules i Parent) q
+        ∙ mapped (with_child (class_of before)) (state_at a t).rules i Parent
+
+    pub stable_by_key : AreStable kinds a class
+    stable_by_key = record {
+      faces = λ s t ls lt e.
+          let q = key_state a before s t (one_key s t ls lt e) in
+          sym (plain_face (class_of before) (state_at a s)) ∙ ap face q ∙ plain_face (class_of before) (state_at a t);
+      children = λ s t i ls lt e li h.
+          let q = key_state a before s t (one_key s t ls lt e) in
+          let f = sym (plain_face (class_of before) (state_at a s)) ∙ ap face q ∙ plain_face (class_of before) (state_at a t) in
+          let h' = face_child kinds a s t f i h in
+          let rules = by_rules s t i q in
+          let same : class_of before (child_of (rule_at a s i)) ≡ class_of before (child_of (rule_at a t i)) =
+          ap child_of (sym (ap (with_child (class_of before)) h) ∙ rules ∙ ap (with_child (class_of before)) h') in
+          kept (child_of (rule_at a s i)) (child_of (rule_at a t i)) (child_below s i (child_of (rule_at a s i)) ls li h)
+          (child_below t i (child_of (rule_at a t i)) lt (subst (λ n. i < n) (face_sides kinds a s t f) li) h') same;
+    }
+
   module _ (before class : List ℕ) (count more : ℕ) (keys : AreByKey a before class more) (uses : Uses a before count) (few : more ≤ count) where
     finer : (s t : ℕ) → s < length a.states → t < length a.states → class_of class s ≡ class_of class t → class_of before s ≡ class_of before t
     finer s t ls lt e = key_class a before s t ((keys.one s t ls lt).0 e)
@@ -148,29 +175,8 @@ module _ (kinds : List TileKind) (a : TreeAutomaton) (ok : IsAccepted kinds a) w
             which (inl q) = absurd (too_many t lt (none_of t lt (sym e) (λ w. other (sym q ∙ w))))
             which (inr d) = absurd (too_many s ls (none_of s ls refl d))
 
-    -- the rules of a state by classes
-    by_rules : (s t i : ℕ) → classed_state a before s ≡ classed_state a before t → with_child (class_of before) (rule_at a s i) ≡ with_child (class_of before) (rule_at a t i)
-    unfolding rule_at
-    by_rules s t i q =
-        sym (mapped (with_child (class_of before)) (state_at a s).rules i Parent)
-        ∙ ap (λ (u : TreeState). slice_index_or u.rules i Parent) q
-        ∙ mapped (with_child (class_of before)) (state_at a t).rules i Parent
-
     pub settled : AreStable kinds a class
-    settled = record {
-      faces = λ s t ls lt e.
-          let q = key_state a before s t ((keys.one s t ls lt).0 e) in
-          sym (plain_face (class_of before) (state_at a s)) ∙ ap face q ∙ plain_face (class_of before) (state_at a t);
-      children = λ s t i ls lt e li h.
-          let q = key_state a before s t ((keys.one s t ls lt).0 e) in
-          let f = sym (plain_face (class_of before) (state_at a s)) ∙ ap face q ∙ plain_face (class_of before) (state_at a t) in
-          let h' = face_child kinds a s t f i h in
-          let rules = by_rules s t i q in
-          let same : class_of before (child_of (rule_at a s i)) ≡ class_of before (child_of (rule_at a t i)) =
-          ap child_of (sym (ap (with_child (class_of before)) h) ∙ rules ∙ ap (with_child (class_of before)) h') in
-          kept (child_of (rule_at a s i)) (child_of (rule_at a t i)) (child_below s i (child_of (rule_at a s i)) ls li h)
-          (child_below t i (child_of (rule_at a t i)) lt (subst (λ n. i < n) (face_sides kinds a s t f) li) h') same;
-    }
+    settled = stable_by_key before class (λ s t ls lt e. (keys.one s t ls lt).0 e) kept
 
   -- no path tells states of one class apart, where classes are stable
   pub stable_classes : (class : List ℕ) → AreStable kinds a class → (s t : ℕ) → s < length a.states → t < length a.states → class_of class s ≡ class_of class t → AreAlike kinds a s t

@@ -5,3 +5,4 @@ pub mod Reducing
 pub mod Joined
 pub mod Pairs
 pub mod Searches
+pub mod Firsts

@@ -13,6 +13,7 @@ mod reached;
 mod reducing;
 mod rounds;
 mod search;
+mod stability;
 
 pub use first_path::telling;
 pub use merging::{Merged, merge};

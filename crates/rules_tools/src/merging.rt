@@ -12,10 +12,9 @@ ghost use Rattle.rules_tools.specs.Reducing.{AreOrdered};
 
 use crate::children::count;
 use crate::keys::class_of;
-use crate::numbers::zeros;
 use crate::reached::reached;
 use crate::reducing::reduced;
-use crate::rounds::settle;
+use crate::rounds::settled;
 use key_numbers::Numbering;
 use rules_data::Automaton;
 use std::alloc::{AllocError, Global};
@@ -80,7 +79,7 @@ fn classes(
     ensures { IfOk result (λ v. (count : ℕ) × AreClasses tess.now a.now v.items count) }
 {
     let marks = reached(alloc, tess, a)?;
-    let class = settle(alloc, a, zeros(alloc, a.states.len())?)?;
+    let class = settled(alloc, a)?;
     number_classes(alloc, a, &marks, &class)
 }
 

@@ -7,7 +7,8 @@ ghost use Rattle.rules_tools.specs.Classes.{AreApart, AreStable, AreByKey};
 
 use crate::children::count;
 use crate::keys::key;
-use crate::numbers::plain;
+use crate::numbers::{plain, zeros};
+use crate::stability::is_stable;
 use key_numbers::Numbering;
 use rules_data::Automaton;
 use std::alloc::{AllocError, Global};
@@ -31,7 +32,7 @@ pub(crate) fn round(
 
 /// The classes of the states that no path tells apart, by as many rounds as it takes from classes
 /// that paths tell apart.
-pub(crate) fn settle(alloc: Global, a: &Automaton, start: Vec<u32>) -> Result<Vec<u32>, AllocError>
+fn settle(alloc: Global, a: &Automaton, start: Vec<u32>) -> Result<Vec<u32>, AllocError>
     requires { length a.now.states ≤ 100000 }
     ensures long { IfOk result (λ v. length v.items ≡ length a.now.states) }
     ensures apart { (kinds : List TileKind) → IsAccepted kinds a.now
@@ -51,4 +52,20 @@ pub(crate) fn settle(alloc: Global, a: &Automaton, start: Vec<u32>) -> Result<Ve
         more = next_count;
     }
     Ok(class)
+}
+
+/// The classes of the states that no path tells apart. Where those by faces are stable, it is these.
+pub(crate) fn settled(alloc: Global, a: &Automaton) -> Result<Vec<u32>, AllocError>
+    requires { length a.now.states ≤ 100000 }
+    ensures apart { (kinds : List TileKind) → IsAccepted kinds a.now
+        → IfOk result (λ v. AreApart kinds a.now v.items) }
+    ensures stable { (kinds : List TileKind) → IsAccepted kinds a.now
+        → IfOk result (λ v. AreStable kinds a.now v.items) }
+{
+    let start = zeros(alloc, a.states.len())?;
+    let (faces, _) = round(alloc, a, &start)?;
+    if is_stable(alloc, a, &faces)? {
+        return Ok(faces);
+    }
+    settle(alloc, a, faces)
 }
