@@ -1,5 +1,5 @@
 -- A pen on the contour, from a Left side to the side that is matched with it.
-use Rattle.std.proofs.Common.{◌≡◌, ◌≢◌, ℕ, suc, ◌+◌, ◌≤◌, ◌<◌, true, false, List, [], ◌∷◌, ◌++◌, length, refl, sym, ap, ap₂, ◌∙◌, subst, arith, append_assoc}
+use Rattle.std.proofs.Common.{◌≡◌, ℕ, suc, ◌≤◌, ◌<◌, true, false, List, [], ◌∷◌, ◌++◌, length, refl, sym, ap, ap₂, ◌∙◌, subst, arith, append_assoc}
 use Rattle.tile_model.specs.Tessellations.{TileKind}
 use Rattle.tile_model.specs.Relation.{Change}
 use Rattle.structure_check.specs.Rules.{TreeRules, AreSound}
@@ -8,10 +8,10 @@ use Rattle.tree_model.specs.Contours.{Opens}
 use Rattle.tree_model.specs.Positions.{Position, turn_left, hop, mark, MatchesLeftwards, LiesAcross, in_tree, from_left, from_right}
 use Rattle.tree_model.specs.Places.{position_word}
 use Rattle.tree_laws.specs.Machine.{most_moves}
-use Rattle.tree_laws.specs.Directions.{most_open, Runs, Goes, left_over}
+use Rattle.tree_laws.specs.Directions.{Runs, Goes, left_over}
 use Rattle.tree_laws.proofs.Runs.{goes_on, ends, tells, counter_most}
 use Rattle.tree_laws.proofs.Contour.{arrives}
-use Rattle.spot_laws.specs.Spots.{IsSpot, IsAt}
+use Rattle.spot_laws.specs.Spots.{IsSpot}
 use Rattle.log_laws.specs.Logs.{inserted, tree_words, crossing_log, contour_log}
 use Rattle.log_laws.proofs.Moving.{move_on, move_last}
 use Rattle.log_laws.proofs.Logged.{contours_write_logs}

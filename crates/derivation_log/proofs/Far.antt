@@ -11,7 +11,7 @@ use Rattle.tree_laws.proofs.Stopping.{arrives_deep}
 use Rattle.tree_laws.proofs.Places.{one_place, leads_place, places_related}
 use Rattle.tree_laws.proofs.Levels.{level}
 use Rattle.structure_check.specs.Rules.{TreeRules, AreSound}
-use Rattle.spot_laws.specs.Spots.{TreeSpot, IsAt, position, root_kind}
+use Rattle.spot_laws.specs.Spots.{TreeSpot, IsAt, position}
 use Rattle.step_engine.specs.declared.fault.StepFault.{StepFault}
 use Rattle.step_engine.specs.declared.fault.StepFault.TheVariants.{Deep, Memory}
 use Rattle.step_engine.specs.Crossings.{WalkLeadsTo, WalksDeep}

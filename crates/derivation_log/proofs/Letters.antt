@@ -1,11 +1,9 @@
 -- How many letters the words of names and positions have.
-use Rattle.std.proofs.Common.{◌≡◌, ◌≢◌, ℕ, suc, ◌+◌, List, [], ◌∷◌, ◌++◌, length, replicate, refl, sym, ap, ap₂, ◌∙◌, arith, length-append}
+use Rattle.std.proofs.Common.{◌≡◌, ◌≢◌, ℕ, ◌+◌, List, [], ◌∷◌, ◌++◌, length, replicate, refl, ap, ◌∙◌, arith, length-append}
 use Rattle.std.proofs.lemmas.List.{length-replicate}
-use Rattle.tile_model.specs.declared.Letter.{Letter}
 use Rattle.tile_model.specs.declared.Letter.TheVariants.{L, X}
 use Rattle.tree_model.specs.Names.{word}
-use Rattle.tree_model.specs.Positions.{Position, parent, last_side}
-use Rattle.tree_model.specs.Places.{position_word}
+use Rattle.tree_model.specs.Positions.{parent, last_side}
 use Rattle.tree_model.proofs.Names.{LastView, empty, last, last_view, parent_push, last_side_push}
 use Rattle.tree_laws.proofs.Words.{word_push}
 

@@ -1,5 +1,5 @@
 -- What a pen writes: on turns, across sides of the tree, and on a move along the contour.
-use Rattle.std.proofs.Common.{◌≡◌, ◌≢◌, ℕ, zero, suc, ◌+◌, ◌≤◌, Bool, true, false, nat_eq, List, [], ◌∷◌, ◌++◌, length, refl, sym, ap, ap₂, ◌∙◌, subst, arith, append-nil}
+use Rattle.std.proofs.Common.{◌≡◌, ◌≢◌, ℕ, zero, suc, ◌+◌, Bool, false, nat_eq, List, [], ◌∷◌, ◌++◌, length, refl, sym, ap, ap₂, ◌∙◌, subst, arith, append-nil}
 use Rattle.std.proofs.lemmas.List.{length_push}
 use Rattle.tile_model.specs.Tessellations.{TileKind}
 use Rattle.tile_model.specs.Relation.{Change}
@@ -14,7 +14,7 @@ use Rattle.tree_model.specs.Places.{position_word}
 use Rattle.tree_model.proofs.Sides.{next_last, next_zero}
 use Rattle.tree_model.proofs.Positions.{make_position, parent_up}
 use Rattle.spot_laws.specs.Spots.{IsSpot, IsAt, IsAtChild, IsAtParent, position, root_kind, faced_rule}
-use Rattle.log_laws.specs.Logs.{inserted, deleted, turn_log, across_log, tree_words, contour_log, logged_at, logged}
+use Rattle.log_laws.specs.Logs.{inserted, deleted, turn_log, across_log, tree_words, contour_log, logged_at}
 use Rattle.derivation_log.specs.Drafts.{IsWritten}
 use Rattle.derivation_log.specs.Pens.{at, home, mark_at, open_log, HasWritten, HasTurnedLeft, HasTurnedRight, HasHopped, HasMoved}
 use Rattle.derivation_log.specs.declared.pen.Pen.{Pen}

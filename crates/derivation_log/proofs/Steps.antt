@@ -1,5 +1,5 @@
 -- A pen that goes by a letter, and by a walk.
-use Rattle.std.proofs.Common.{◌≡◌, ◌≢◌, ℕ, suc, ◌+◌, ◌<◌, ◌≤◌, ◌⊎◌, inl, inr, List, [], ◌∷◌, ◌++◌, length, take, drop, slice_index_or, refl, sym, ap, ap₂, ◌∙◌, subst, arith, append_assoc, append-nil, take_all, take-append-drop}
+use Rattle.std.proofs.Common.{◌≡◌, ◌≢◌, ℕ, ◌+◌, ◌<◌, ◌≤◌, ◌⊎◌, inl, inr, List, [], ◌∷◌, ◌++◌, length, take, drop, slice_index_or, refl, sym, ap, ◌∙◌, subst, arith, append_assoc, append-nil, take_all, take-append-drop}
 use Rattle.std.proofs.lemmas.Bool.{cases_eq}
 use Rattle.std.proofs.lemmas.List.{take_more, drop_more}
 use Rattle.tile_model.specs.declared.Letter.{Letter}
@@ -7,26 +7,25 @@ use Rattle.tile_model.specs.declared.Letter.TheVariants.{L, R, X}
 use Rattle.tile_model.specs.Relation.{Change, Changes, Lead, left_and_right, there_and_back}
 use Rattle.tile_model.proofs.Relations.{lead_append, lead_behind}
 use Rattle.structure_check.specs.Rules.{TreeRules, AreSound}
-use Rattle.tree_model.specs.Contours.{Tree, Opens, Closes}
+use Rattle.tree_model.specs.Contours.{Opens, Closes}
 use Rattle.tree_model.specs.Names.{word}
 use Rattle.tree_model.specs.Positions.{Position, IsPosition, root, turn_left, turn_right, hop, mark, rule_of, MatchesLeftwards, LiesAcross, in_tree, from_left, from_right, Moves, Leads}
-use Rattle.tree_model.specs.Places.{position_word, IsPlace}
-use Rattle.tree_model.proofs.Sides.{next_last}
+use Rattle.tree_model.specs.Places.{position_word}
 use Rattle.tree_model.proofs.Positions.{left_right, right_position}
 use Rattle.tree_laws.proofs.Closure.{across_same, across_back, across_position}
 use Rattle.tree_laws.proofs.Walking.{leads_append, leads_same}
 use Rattle.tree_laws.proofs.Places.{leads_place}
 use Rattle.tree_laws.proofs.Levels.{level}
-use Rattle.spot_laws.specs.Spots.{IsSpot, IsAt, position, root_kind}
+use Rattle.spot_laws.specs.Spots.{IsSpot, IsAt}
 use Rattle.step_engine.specs.Crossings.{IsAcross, CrossesDeep}
 use Rattle.log_laws.specs.Logs.{inserted, deleted, turn_log, across_log, crossing_log}
 use Rattle.log_laws.proofs.TreeWords.{left_leads}
 use Rattle.log_laws.proofs.Letters.{delete_behind, turns_left, hops}
 use Rattle.log_laws.proofs.Logged.{crossings_are_logged}
-use Rattle.derivation_log.specs.Drafts.{undoing, IsWritten, IsWrittenBack}
+use Rattle.derivation_log.specs.Drafts.{IsWritten, IsWrittenBack}
 use Rattle.derivation_log.specs.Passing.{PassesFar}
 use Rattle.tree_model.specs.Limits.{deepest}
-use Rattle.derivation_log.specs.Pens.{at, home, mark_at, open_log, right_log, HasWritten, HasTurnedLeft, HasTurnedRight, HasHopped, HasRounded, HasCrossed, HasStepped}
+use Rattle.derivation_log.specs.Pens.{at, home, open_log, right_log, HasWritten, HasTurnedLeft, HasTurnedRight, HasHopped, HasRounded, HasCrossed, HasStepped}
 use Rattle.derivation_log.specs.declared.pen.Pen.{Pen}
 use Rattle.derivation_log.proofs.Drafts.{taken_back}
 use Rattle.derivation_log.proofs.Pens.{turn_over, turn_within, settled}
@@ -91,10 +90,10 @@ module _ (r : TreeRules) (sound : AreSound r) (p p' : Pen) (h : IsSpot r p.place
   pub stepped_right : HasTurnedRight r p p' → HasStepped r p R p'
   stepped_right w =
       stepped R (right_log (at p) (at p')) (record { place = (settled r p p' (turn_right r.kinds r.automaton K (at p)) (right_log (at p) (turn_right r.kinds r.automaton K (at p))) w).place; log = subst (λ z. IsWritten p.log (right_log (at p) z) p'.log) (sym w.place.stands) w.log }) (sym w.place.stands) (λ rest.
-          let q = at p' in
-          let wide = lead_behind r.kinds (K, 0) (open_log (at p)) (position_word (at p)) (position_word q ++ L ∷ []) (R ∷ rest) (opened q w.place.stands) in
-          let on = subst (λ z. Goes (open_log (at p)) (position_word (at p) ++ R ∷ rest) z) (append_assoc (position_word q) (L ∷ []) (R ∷ rest)) wide in
-          lead_append r.kinds (K, 0) (open_log (at p)) (deleted (length (position_word q)) 2 ∷ []) (position_word (at p) ++ R ∷ rest) (position_word q ++ (L ∷ R ∷ rest)) (position_word q ++ rest) on (delete_behind r.kinds (K, 0) (position_word q) (L ∷ R ∷ []) rest 2 left_and_right))
+      let q = at p' in
+      let wide = lead_behind r.kinds (K, 0) (open_log (at p)) (position_word (at p)) (position_word q ++ L ∷ []) (R ∷ rest) (opened q w.place.stands) in
+      let on = subst (λ z. Goes (open_log (at p)) (position_word (at p) ++ R ∷ rest) z) (append_assoc (position_word q) (L ∷ []) (R ∷ rest)) wide in
+      lead_append r.kinds (K, 0) (open_log (at p)) (deleted (length (position_word q)) 2 ∷ []) (position_word (at p) ++ R ∷ rest) (position_word q ++ (L ∷ R ∷ rest)) (position_word q ++ rest) on (delete_behind r.kinds (K, 0) (position_word q) (L ∷ R ∷ []) rest 2 left_and_right))
 
   pub crossed_tree : HasHopped r p p' → HasCrossed r p p'
   crossed_tree hopped =

@@ -5,11 +5,11 @@ use Rattle.tile_model.specs.declared.Letter.TheVariants.{X}
 use Rattle.tile_model.specs.Relation.{Change, Lead}
 use Rattle.structure_check.specs.Rules.{TreeRules}
 use Rattle.tree_model.specs.Contours.{Mark, Tree}
-use Rattle.tree_model.specs.Positions.{Position, turn_left, turn_right, hop, mark, rule_of, MatchesLeftwards, LiesAcross, Moves}
+use Rattle.tree_model.specs.Positions.{Position, turn_left, turn_right, hop, mark, rule_of, MatchesLeftwards, Moves}
 use Rattle.tree_model.specs.Names.{word}
 use Rattle.tree_model.specs.Places.{position_word}
 use Rattle.tree_laws.specs.Directions.{Goes, most_open}
-use Rattle.spot_laws.specs.Spots.{IsSpot, IsAt, position, root_kind}
+use Rattle.spot_laws.specs.Spots.{IsAt, position, root_kind}
 use Rattle.log_laws.specs.Logs.{inserted, deleted, turn_log, across_log, contour_log, crossing_log}
 use Rattle.derivation_log.specs.Drafts.{IsWritten}
 use Rattle.derivation_log.specs.declared.pen.Pen.{Pen}

@@ -11,8 +11,11 @@ use std::marker::Model;
 
 /// The numbers of the loops that are written.
 pub(crate) const THERE_AND_BACK: u8 = 1;
+
 pub(crate) const LEFT_AND_RIGHT: u8 = 2;
+
 pub(crate) const FULL_TURN: u8 = 4;
+
 pub(crate) const ROUND_CORNER: u8 = 5;
 
 /// A log whose changes all have texts. A change that undoes the last one takes it away, so that neither is kept.

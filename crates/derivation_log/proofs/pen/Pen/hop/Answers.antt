@@ -1,6 +1,6 @@
-use Rattle.std.proofs.Common.{◌∙◌, refl, sym, ap}
+use Rattle.std.proofs.Common.{◌∙◌, sym, ap}
 use Rattle.tree_model.specs.Positions.{mark_of_rule}
-use Rattle.derivation_log.proofs.Pens.{parent_rule, has_parent, hopped_down, hopped_up}
+use Rattle.derivation_log.proofs.Pens.{parent_rule, has_parent}
 use Rattle.derivation_log.proofs.pen.Pen.hop.Goals as goal
 
 pub up-requires : goal.up-requires

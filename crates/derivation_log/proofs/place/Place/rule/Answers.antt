@@ -1,4 +1,4 @@
-use Rattle.std.proofs.Common.{◌∙◌, ap, ap₂, sym, subst, arith, length}
+use Rattle.std.proofs.Common.{ap, ap₂, sym, subst, arith, length}
 use Rattle.tree_model.specs.Automata.{state_at}
 use Rattle.spot_laws.specs.Spots.{IsSpot, tile_state}
 use Rattle.spot_laws.proofs.Spots.{tile_known}
