@@ -17,7 +17,7 @@ struct Side {
 
 /// The sides of all tiles, tile by tile.
 #[derive(Debug, Drop)]
-pub struct Ball<'t> {
+pub(crate) struct Ball<'t> {
     tess: &'t Tessellation,
     sides: Vec<Side>,
     tiles: u32,
@@ -25,7 +25,11 @@ pub struct Ball<'t> {
 
 impl<'t> Ball<'t> {
     /// The tiles round one of kind 0: those that lie across the first so many sides.
-    pub fn grow(alloc: Global, tess: &'t Tessellation, count: u32) -> Result<Ball<'t>, AllocError> {
+    pub(crate) fn grow(
+        alloc: Global,
+        tess: &'t Tessellation,
+        count: u32,
+    ) -> Result<Ball<'t>, AllocError> {
         let mut ball = Ball {
             tess,
             sides: Vec::new(alloc),
@@ -39,7 +43,7 @@ impl<'t> Ball<'t> {
     }
 
     /// Where a walk leads from a side, if it stays among the tiles.
-    pub fn walk(&self, from: usize, letters: &str) -> Option<usize> {
+    pub(crate) fn walk(&self, from: usize, letters: &str) -> Option<usize> {
         let mut at = from;
         for x in letters.as_bytes() {
             at = match *x {
@@ -52,12 +56,16 @@ impl<'t> Ball<'t> {
     }
 
     /// The number of the tile that a side belongs to.
-    pub fn tile(&self, side: usize) -> Option<u32> {
+    pub(crate) fn tile(&self, side: usize) -> Option<u32> {
         Some(self.sides.get(side)?.tile)
     }
 
     /// How many crossings the tiles are away from one of them, by crossings of joined sides.
-    pub fn distances(&self, alloc: Global, from: u32) -> Result<Vec<Option<u32>>, AllocError> {
+    pub(crate) fn distances(
+        &self,
+        alloc: Global,
+        from: u32,
+    ) -> Result<Vec<Option<u32>>, AllocError> {
         let mut found = Vec::new(alloc);
         for tile in 0..self.tiles {
             found.push(if tile == from { Some(0) } else { None })?;
@@ -149,8 +157,8 @@ impl<'t> Ball<'t> {
         closed
     }
 
-    // The side across one that is not joined, where all other sides round the corner at its left end
-    // are joined.
+    // The side across one that is not joined, where all other sides round the corner at its left
+    // end are joined.
     fn forced(&self, at: usize) -> Option<usize> {
         let side = self.sides.get(at)?;
         if side.across.is_some() || !self.tess.has(side.look) {

@@ -5,7 +5,7 @@ use walker_run::run;
 use way_io::{MemFiles, MemSink, MemSource, Source};
 
 /// The exit status of the words, separated by spaces.
-pub fn call<I: Source>(
+pub(crate) fn call<I: Source>(
     alloc: Global,
     words: &str,
     files: &mut MemFiles,
@@ -21,7 +21,7 @@ pub fn call<I: Source>(
 }
 
 /// A source that gives at most `step` bytes a read, and one where that is 0.
-pub fn source(
+pub(crate) fn source(
     alloc: Global,
     bytes: &[u8],
     step: u32,
@@ -31,6 +31,11 @@ pub fn source(
 }
 
 /// A sink that takes at most `step` bytes a write, and one where that is 0.
-pub fn sink(alloc: Global, room: u32, step: u32, failing: &[u32]) -> Result<MemSink, AllocError> {
+pub(crate) fn sink(
+    alloc: Global,
+    room: u32,
+    step: u32,
+    failing: &[u32],
+) -> Result<MemSink, AllocError> {
     MemSink::new(alloc, room, step.max(1), failing)
 }

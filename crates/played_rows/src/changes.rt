@@ -88,7 +88,11 @@ struct Counts {
 
 /// Each number of a rules file raised and lowered by one: how many changes there are, how many of
 /// them the checker accepts, and for how many it names another place than the second reading.
-pub fn tell_changes(stage: &mut Stage, rest: &str, said: &mut Vec<u8>) -> Result<(), AllocError> {
+pub(crate) fn tell_changes(
+    stage: &mut Stage,
+    rest: &str,
+    said: &mut Vec<u8>,
+) -> Result<(), AllocError> {
     let alloc = stage.alloc;
     let (name, rules) = halves(rest, " ");
     let bytes = stage.content(rules)?;

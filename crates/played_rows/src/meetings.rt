@@ -124,7 +124,11 @@ fn tessellation(alloc: Global, bytes: &[u8]) -> Option<Tessellation> {
 /// How many ordered pairs of 64 walkers come to be on one tile, for each of four last steps, where
 /// the program and the slow one agree in all that they say. The slow one grows the tiles that lie
 /// across so many sides.
-pub fn tell_meetings(stage: &mut Stage, rest: &str, said: &mut Vec<u8>) -> Result<(), AllocError> {
+pub(crate) fn tell_meetings(
+    stage: &mut Stage,
+    rest: &str,
+    said: &mut Vec<u8>,
+) -> Result<(), AllocError> {
     let alloc = stage.alloc;
     let (sides, rest) = halves(rest, " ");
     let (name, words) = halves(rest, " ");

@@ -302,7 +302,7 @@ fn first_wrong<'a>(stream: &'a [u8], output: &[u8]) -> Option<&'a [u8]> {
 
 /// What comes of a million lines at random to the words of a session: how many batches of them have
 /// a reply that may not come, or end otherwise.
-pub fn tell_random_lines(
+pub(crate) fn tell_random_lines(
     stage: &mut Stage,
     words: &str,
     said: &mut Vec<u8>,

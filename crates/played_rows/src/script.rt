@@ -13,7 +13,7 @@ use way_io::Files;
 const LONGEST: u32 = 1_000_000;
 
 /// Plays a script, and adds what came.
-pub fn play<F: Files>(
+pub(crate) fn play<F: Files>(
     alloc: Global,
     disk: &mut F,
     name: &str,
@@ -38,6 +38,7 @@ pub fn play<F: Files>(
             | "beginnings"
             | "meetings"
             | "changes"
+            | "slow_walks"
             | "random_lines"
             | "unread_words" => {
                 tell_line(said, line)?;
@@ -111,6 +112,7 @@ fn set(alloc: Global, stage: &mut Stage, word: &str, rest: &str) -> Result<bool,
         "failing_reads" => next.failing_reads = numbers(alloc, rest)?,
         "failing_writes" => next.failing_writes = numbers(alloc, rest)?,
         "show" => next.shown.push(String::from_str(alloc, rest)?)?,
+        "find" => next.found.push(String::from_str(alloc, rest)?)?,
         "keep" => next.stored.push(String::from_str(alloc, rest)?)?,
         _ => return set_file(alloc, stage, word, rest),
     }

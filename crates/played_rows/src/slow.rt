@@ -1,5 +1,5 @@
-// Walks in the tree of rules, and beside them a slow program that follows the definition of what lies
-// across: it finds the side that is matched with another by recursion, and counts no brackets.
+// Walks in the tree of rules, and beside them a slow program that follows the definition of what
+// lies across: it finds the side that is matched with another by recursion, and counts no brackets.
 use crate::call::{call, sink, source};
 use crate::stage::Stage;
 use crate::told::{halves, tell};
@@ -191,7 +191,7 @@ fn automaton(alloc: Global, bytes: &[u8]) -> Option<Automaton> {
 
 /// Whether the program and the slow one agree on three long walks, after each letter and after the
 /// whole at once.
-pub fn tell_slow_walks(
+pub(crate) fn tell_slow_walks(
     stage: &mut Stage,
     rest: &str,
     said: &mut Vec<u8>,

@@ -5,14 +5,14 @@ use std::alloc::{AllocError, Global};
 use way_io::{FillSource, MemFiles, MemSink};
 
 #[derive(Drop)]
-pub struct Held {
+pub(crate) struct Held {
     pub name: String,
     pub bytes: Vec<u8>,
 }
 
 /// What the next call alone finds, and the files that are told and kept after it.
 #[derive(Drop)]
-pub struct Next {
+pub(crate) struct Next {
     pub files: Vec<Held>,
     pub input: Vec<u8>,
     /// How many bytes x the input has in place of these, where it is not 0.
@@ -24,12 +24,13 @@ pub struct Next {
     pub failing_reads: Vec<u32>,
     pub failing_writes: Vec<u32>,
     pub shown: Vec<String>,
+    pub found: Vec<String>,
     pub stored: Vec<String>,
 }
 
 /// The files of every call, and what the next one finds beside them.
 #[derive(Drop)]
-pub struct Stage {
+pub(crate) struct Stage {
     pub alloc: Global,
     pub kept: Vec<Held>,
     pub next: Next,
@@ -49,7 +50,7 @@ impl Outcome {
 }
 
 impl Next {
-    pub fn new(alloc: Global) -> Next {
+    pub(crate) fn new(alloc: Global) -> Next {
         Next {
             files: Vec::new(alloc),
             input: Vec::new(alloc),
@@ -61,13 +62,14 @@ impl Next {
             failing_reads: Vec::new(alloc),
             failing_writes: Vec::new(alloc),
             shown: Vec::new(alloc),
+            found: Vec::new(alloc),
             stored: Vec::new(alloc),
         }
     }
 }
 
 impl Stage {
-    pub fn new(alloc: Global) -> Stage {
+    pub(crate) fn new(alloc: Global) -> Stage {
         Stage {
             alloc,
             kept: Vec::new(alloc),
@@ -76,7 +78,7 @@ impl Stage {
     }
 
     /// What a file of the next call holds; nothing where it is not there.
-    pub fn content(&self, name: &str) -> Result<Vec<u8>, AllocError> {
+    pub(crate) fn content(&self, name: &str) -> Result<Vec<u8>, AllocError> {
         for held in self.next.files.iter().chain(self.kept.iter()) {
             if held.name.as_str() == name {
                 return held.bytes.clone();
@@ -86,7 +88,7 @@ impl Stage {
     }
 
     /// The files that a call finds.
-    pub fn files(&self) -> Result<MemFiles, AllocError> {
+    pub(crate) fn files(&self) -> Result<MemFiles, AllocError> {
         let mut files = MemFiles::new(self.alloc, &self.next.failing_files)?;
         for held in &self.kept {
             files.add(&held.name, &held.bytes)?;
@@ -127,7 +129,7 @@ impl Stage {
 
     /// A call as it stands, with each step of the source: all come to the same, and leave the same
     /// files, of which those that are asked for are told.
-    pub fn play(&mut self, words: &str, said: &mut Vec<u8>) -> Result<(), AllocError> {
+    pub(crate) fn play(&mut self, words: &str, said: &mut Vec<u8>) -> Result<(), AllocError> {
         let mut files = self.files()?;
         let out = self.sink(&self.next.failing_writes)?;
         let reads = &self.next.failing_reads;
@@ -154,6 +156,13 @@ impl Stage {
     }
 
     fn tell_files(&self, files: &MemFiles, said: &mut Vec<u8>) -> Result<(), AllocError> {
+        for name in &self.next.found {
+            if files.content(name).is_some() {
+                tell(said, format!(in self.alloc; "{name} is there\n")?.as_str())?;
+            } else {
+                tell(said, format!(in self.alloc; "no {name}\n")?.as_str())?;
+            }
+        }
         for name in &self.next.shown {
             match files.content(name) {
                 None => tell(said, format!(in self.alloc; "no {name}\n")?.as_str())?,
@@ -181,7 +190,7 @@ impl Stage {
 
     /// The call with each read, or each write, failing in turn, until nothing comes of it: how much
     /// stands written, which is a beginning of what else does.
-    pub fn sweep(
+    pub(crate) fn sweep(
         &mut self,
         reads: bool,
         words: &str,
@@ -212,7 +221,7 @@ impl Stage {
     }
 
     /// The call with each beginning of the file x: from which length on it comes to what.
-    pub fn beginnings(&mut self, words: &str, said: &mut Vec<u8>) -> Result<(), AllocError> {
+    pub(crate) fn beginnings(&mut self, words: &str, said: &mut Vec<u8>) -> Result<(), AllocError> {
         let whole = self.content("x")?;
         let mut last: Option<Outcome> = None;
         for end in 0..=whole.len() {

@@ -4,12 +4,16 @@ use std::alloc::{AllocError, Global};
 /// Outputs of more bytes are told by their number and their end.
 const SHOWN: usize = 20_000;
 
-pub fn tell(said: &mut Vec<u8>, text: &str) -> Result<(), AllocError> {
+pub(crate) fn tell(said: &mut Vec<u8>, text: &str) -> Result<(), AllocError> {
     said.extend_from_slice(text.as_bytes())
 }
 
 /// An output, and `(cut)` where its last line has no end.
-pub fn tell_output(alloc: Global, said: &mut Vec<u8>, output: &[u8]) -> Result<(), AllocError> {
+pub(crate) fn tell_output(
+    alloc: Global,
+    said: &mut Vec<u8>,
+    output: &[u8],
+) -> Result<(), AllocError> {
     let mut shown = output;
     if output.len() > SHOWN {
         let count = output.len();
@@ -28,7 +32,7 @@ pub fn tell_output(alloc: Global, said: &mut Vec<u8>, output: &[u8]) -> Result<(
 
 /// Adds a text in which `\n` and `\r` stand for the ends of lines, and `\` before another byte
 /// for that byte.
-pub fn add_text(bytes: &mut Vec<u8>, text: &str) -> Result<(), AllocError> {
+pub(crate) fn add_text(bytes: &mut Vec<u8>, text: &str) -> Result<(), AllocError> {
     let mut escaped = false;
     for byte in text.as_bytes() {
         if *byte == b'\\' && !escaped {
@@ -46,12 +50,12 @@ pub fn add_text(bytes: &mut Vec<u8>, text: &str) -> Result<(), AllocError> {
 }
 
 /// The number that a word spells, and 0 where it spells none.
-pub fn number(word: &str) -> u32 {
+pub(crate) fn number(word: &str) -> u32 {
     word.parse::<u32>().unwrap_or(0)
 }
 
 /// The numbers in words that are separated by spaces.
-pub fn numbers(alloc: Global, words: &str) -> Result<Vec<u32>, AllocError> {
+pub(crate) fn numbers(alloc: Global, words: &str) -> Result<Vec<u32>, AllocError> {
     let mut list = Vec::new(alloc);
     for word in words.split(' ') {
         list.push(number(word))?;
@@ -59,7 +63,7 @@ pub fn numbers(alloc: Global, words: &str) -> Result<Vec<u32>, AllocError> {
     Ok(list)
 }
 
-/// What stands before the first of some text, and what stands behind it; all, where it is not there.
-pub fn halves<'a>(text: &'a str, at: &'static str) -> (&'a str, &'a str) {
+/// What stands before the first of some text, and what stands behind it; all, where there is none.
+pub(crate) fn halves<'a>(text: &'a str, at: &'static str) -> (&'a str, &'a str) {
     text.split_once(at).unwrap_or((text, ""))
 }

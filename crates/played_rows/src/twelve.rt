@@ -5,7 +5,7 @@ use tile_kinds::Kind;
 use tree_model::{Claim, Rule};
 
 /// A condition, and the first and the second number of the place where it is broken.
-pub type Place = (u8, usize, usize);
+pub(crate) type Place = (u8, usize, usize);
 
 // The next number after i of n, which come round.
 fn next(i: usize, n: usize) -> usize {
@@ -18,7 +18,7 @@ fn previous(i: usize, n: usize) -> usize {
 }
 
 /// The first place that is broken.
-pub fn first_broken(kinds: &[Kind], a: &Automaton) -> Option<Place> {
+pub(crate) fn first_broken(kinds: &[Kind], a: &Automaton) -> Option<Place> {
     for part in 0..6 {
         for index in 0..size(kinds, a, part) {
             if !holds_part(kinds, a, part, index).unwrap_or(false) {
@@ -232,8 +232,8 @@ fn holds_at_corner(a: &Automaton, condition: u8, at: usize, corner: &Corner) -> 
     }
 }
 
-// Whether the offsets that are entered sum below 0 along the links that lead from a corner type back
-// to it, where any do.
+// Whether the offsets that are entered sum below 0 along the links that lead from a corner type
+// back to it, where any do.
 fn falls_round(a: &Automaton, start: usize) -> Option<bool> {
     let mut g = start;
     let mut sum: i64 = 0;

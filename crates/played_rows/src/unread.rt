@@ -13,7 +13,7 @@ fn tell_cause(alloc: Global, cause: ErrorKind, said: &mut Vec<u8>) -> Result<(),
     tell(said, &line)
 }
 
-pub fn tell_unread_words(alloc: Global, said: &mut Vec<u8>) -> Result<(), AllocError> {
+pub(crate) fn tell_unread_words(alloc: Global, said: &mut Vec<u8>) -> Result<(), AllocError> {
     tell_cause(alloc, ErrorKind::InvalidData, said)?;
     tell_cause(alloc, ErrorKind::OutOfMemory, said)
 }
