@@ -4,6 +4,8 @@
 #[cfg(test)]
 mod cones;
 #[cfg(test)]
+mod hands;
+#[cfg(test)]
 mod kinds;
 #[cfg(test)]
 mod names;
@@ -15,6 +17,8 @@ mod samples;
 mod sets;
 #[cfg(test)]
 mod streams_and_files;
+#[cfg(test)]
+mod tess_files;
 #[cfg(test)]
 mod texts;
 #[cfg(test)]

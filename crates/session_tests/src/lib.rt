@@ -1,13 +1,7 @@
-//! Tests of lines, sessions and streams, over tilings that are known from outside.
+//! Tests of lines and sessions, called once. What they answer stands in the rows of `played_rows`.
 #![tactic(auto)]
 
 #[cfg(test)]
-mod ball;
-#[cfg(test)]
 mod lines;
 #[cfg(test)]
-mod samples;
-#[cfg(test)]
-mod streams;
-#[cfg(test)]
-mod walkers;
+mod sessions;

@@ -1,4 +1,5 @@
-//! Tests of walks, distances and rings, over tilings that are known from outside.
+//! Tests of walks, distances and rings, each called once or twice. Tables of what they answer stand
+//! in the rows of `played_rows`.
 #![tactic(auto)]
 
 #[cfg(test)]
@@ -7,8 +8,6 @@ mod distances;
 mod logged;
 #[cfg(test)]
 mod rings;
-#[cfg(test)]
-mod slow;
 #[cfg(test)]
 mod spots;
 #[cfg(test)]
