@@ -6,7 +6,11 @@ mod classes;
 #[cfg(test)]
 mod joins;
 #[cfg(test)]
+mod looks;
+#[cfg(test)]
 mod patches;
+#[cfg(test)]
+mod questions;
 #[cfg(test)]
 mod regions;
 #[cfg(test)]

@@ -77,7 +77,7 @@ fn count(
     }
 }
 
-const OF_HEPTAGONS: [(u8, u8, &str); 8] = [
+static OF_HEPTAGONS: [(u8, u8, &str); 8] = [
     (0, 0, "2 2 2 2 2 2 2"),
     (1, 0, "3 4 3 4 3 4"),
     (1, 0, "P R R 4 5 L"),
@@ -88,7 +88,7 @@ const OF_HEPTAGONS: [(u8, u8, &str); 8] = [
     (1, 1, "P R R 5 L L"),
 ];
 
-const OF_SQUARES: [(u8, u8, &str); 21] = [
+static OF_SQUARES: [(u8, u8, &str); 21] = [
     (0, 0, "3 4 3 4 3 4 3 4 3 4 3 4 3 4"),
     (1, 0, "5 6 5 6 5 6"),
     (2, 0, "7 8 7 8"),
@@ -113,7 +113,7 @@ const OF_SQUARES: [(u8, u8, &str); 21] = [
 ];
 
 /// An automaton of the same tessellation that is wrong: cone types that differ count as one.
-const TOO_COARSE: [(u8, u8, &str); 17] = [
+static TOO_COARSE: [(u8, u8, &str); 17] = [
     (0, 0, "3 4 3 4 3 4 3 4 3 4 3 4 3 4"),
     (1, 0, "5 6 5 6 5 6"),
     (2, 0, "7 8 7 8"),
