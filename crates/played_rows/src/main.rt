@@ -8,7 +8,6 @@ mod ball;
 mod call;
 mod changes;
 mod meetings;
-mod random_lines;
 mod script;
 mod slow;
 mod stage;

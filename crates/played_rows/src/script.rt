@@ -1,7 +1,6 @@
 // Scripts: what the words of their lines mean. A line sets something for the next call, or is one.
 use crate::changes::tell_changes;
 use crate::meetings::tell_meetings;
-use crate::random_lines::tell_random_lines;
 use crate::slow::tell_slow_walks;
 use crate::stage::{Held, Next, Stage};
 use crate::told::{add_text, halves, number, numbers, tell};
@@ -39,7 +38,6 @@ pub(crate) fn play<F: Files>(
             | "meetings"
             | "changes"
             | "slow_walks"
-            | "random_lines"
             | "unread_words" => {
                 tell_line(said, line)?;
                 act(stage, word, rest, said)?;
@@ -84,8 +82,7 @@ fn act(stage: &mut Stage, word: &str, rest: &str, said: &mut Vec<u8>) -> Result<
         "meetings" => tell_meetings(stage, rest, said),
         "slow_walks" => tell_slow_walks(stage, rest, said),
         "changes" => tell_changes(stage, rest, said),
-        "unread_words" => tell_unread_words(stage.alloc, said),
-        _ => tell_random_lines(stage, rest, said),
+        _ => tell_unread_words(stage.alloc, said),
     }
 }
 

@@ -1,9 +1,10 @@
-//! Tests of the program: calls with words, files and input in memory.
+//! Tests of the program that take long or much: a million lines at random, and files and streams of
+//! a byte too many. The rows of the program are played by `played_rows`.
 #![tactic(auto)]
 
 #[cfg(test)]
-mod calls;
+mod call;
 #[cfg(test)]
-mod hostile;
+mod limits;
 #[cfg(test)]
-mod uniform;
+mod random_lines;

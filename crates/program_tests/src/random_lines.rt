@@ -1,6 +1,6 @@
 // Lines at random: words of the commands, numbers at their limits, any bytes. A second reading of
 // the grammar says which of them are commands, and which replies may come to each.
-use crate::hostile::{SESSION, code, files};
+use crate::call::{SESSION, code, files};
 use std::alloc::{AllocError, Global};
 use std::test::Fail;
 use way_io::{MemSink, MemSource};
@@ -310,7 +310,7 @@ fn lines_at_random_are_answered(rt: HostRuntime) -> Result<(), Fail> {
         for _ in 0..LINES {
             add_line(&mut draws, &mut stream)?;
         }
-        let mut held = files(alloc, b"", &[])?;
+        let mut held = files(alloc, b"")?;
         let step = u32::try_from(draws.below(5_000)).unwrap_or(0);
         let mut input = MemSource::new(alloc, &stream, step.saturating_add(1), &[])?;
         let mut out = MemSink::new(alloc, 4_000_000, 9_973, &[])?;
