@@ -1,5 +1,5 @@
 -- Walks from the root that pass a tile too far from it, and where two walks are related.
-use Rattle.std.specs.Prelude.{Result, Ok, IsErrOf}
+use Rattle.std.specs.Prelude.{Result, Ok, Err, IsErrAnd, IsErrOf}
 use Rattle.std.proofs.Common.{◌≡◌, ◌⊎◌, inl, inr, ℕ, ◌<◌, ◌≤◌, List, [], ◌∷◌, ◌++◌, length, sym, ap, ◌∙◌, subst, append_assoc, arith}
 use Rattle.tile_model.specs.declared.Letter.{Letter}
 use Rattle.tile_model.specs.declared.Letter.TheVariants.{X}
@@ -60,3 +60,8 @@ module _ (r : TreeRules) (sound : AreSound r) (k : ℕ) (known : k < length r.ki
 pub was_no_fault : {T : Type 0} (result : Result T StepFault) (x : T) → result ≡ Ok x → IsErrOf result Deep ⊎ IsErrOf result Memory → ⊥
 was_no_fault result x e (inl f) = absurd (cc)
 was_no_fault result x e (inr f) = absurd (cc)
+
+-- a fault that is handed on is the same
+pub same_fault : {T E : Type 0} (r : Result T E) (e x : E) → IsErrAnd r (λ y. y ≡ e) → IsErrOf r x → e ≡ x
+same_fault (Ok t) e x is of = absurd is
+same_fault (Err y) e x is of = let f : y ≡ x = cc in sym is ∙ f

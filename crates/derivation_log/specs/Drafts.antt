@@ -15,8 +15,8 @@ IsWritten before changes log =
     (kinds : List TileKind) (d : ℕ × ℕ) (u w : List Letter)
     → Lead kinds d (before ++ changes) u w → Lead kinds d log u w
 
--- The log was written on by a piece turned round: where the piece leads to the walk to which the log
--- before led, it leads to the walk from which the piece does.
+-- The log was written on by a piece turned round: where the piece leads to the walk to which the
+-- log before led, it leads to the walk from which the piece does.
 abbrev pub IsWrittenBack : (before piece log : List Change) → Type 0
 IsWrittenBack before piece log =
     (kinds : List TileKind) (d : ℕ × ℕ) (u v w : List Letter)

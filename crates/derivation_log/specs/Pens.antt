@@ -1,11 +1,13 @@
 -- How a pen goes: from which position to which, and what it writes.
-use Rattle.std.specs.Prelude.{◌≡◌, ℕ, Bool, true, List, [], ◌∷◌, ◌++◌, length, nat_eq, if◌then◌else◌}
+use Rattle.std.specs.Prelude.{◌≡◌, ℕ, Bool, true, List, [], ◌∷◌, ◌++◌, length, nat_eq}
+use Rattle.std.specs.Prelude.{if◌then◌else◌}
 use Rattle.tile_model.specs.declared.Letter.{Letter}
 use Rattle.tile_model.specs.declared.Letter.TheVariants.{X}
 use Rattle.tile_model.specs.Relation.{Change, Lead}
 use Rattle.structure_check.specs.Rules.{TreeRules}
 use Rattle.tree_model.specs.Contours.{Mark, Tree}
-use Rattle.tree_model.specs.Positions.{Position, turn_left, turn_right, hop, mark, rule_of, MatchesLeftwards, Moves}
+use Rattle.tree_model.specs.Positions.{Position, turn_left, turn_right, hop, mark, rule_of}
+use Rattle.tree_model.specs.Positions.{MatchesLeftwards, Moves}
 use Rattle.tree_model.specs.Names.{word}
 use Rattle.tree_model.specs.Places.{position_word}
 use Rattle.tree_laws.specs.Directions.{Goes, most_open}
@@ -42,7 +44,8 @@ HasTurnedLeft rules p p' =
     HasWritten rules p (turn_left rules.kinds rules.automaton (home rules p) (at p))
     (turn_log rules.kinds rules.automaton (home rules p) (at p)) p'
 
--- what is written before a turn to the right: where it passes the first side, a full turn is inserted
+-- what is written before a turn to the right: where it passes the first side, a full turn is
+-- inserted
 abbrev pub open_log : Position → List Change
 open_log p = if nat_eq p.side 0 then inserted (length (word p.name)) 4 ∷ [] else []
 

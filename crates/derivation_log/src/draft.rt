@@ -18,7 +18,8 @@ pub(crate) const FULL_TURN: u8 = 4;
 
 pub(crate) const ROUND_CORNER: u8 = 5;
 
-/// A log whose changes all have texts. A change that undoes the last one takes it away, so that neither is kept.
+/// A log whose changes all have texts. A change that undoes the last one takes it away, so that
+/// neither is kept.
 #[derive(Drop)]
 pub(crate) struct Draft {
     changes: Vec<Change>,

@@ -1,5 +1,6 @@
 //! The log of two walks.
-ghost use Rattle.std.specs.Prelude.{◌≡◌, ◌↔◌, ◌<◌, ◌⊎◌, All, length, IsTrue, IfOk, IfSome, IfNone, IsErrOf};
+ghost use Rattle.std.specs.Prelude.{◌≡◌, ◌↔◌, ◌<◌, ◌⊎◌, All, length, IsTrue, IfOk, IfSome, IfNone};
+ghost use Rattle.std.specs.Prelude.{IsErrOf};
 ghost use Rattle.tile_model.specs.Relation.{Lead, AreRelated};
 ghost use Rattle.tree_model.specs.Positions.{root, Leads};
 ghost use Rattle.spot_laws.specs.Spots.{position};
@@ -14,14 +15,16 @@ use structure_check::Rules;
 use turn_rules::Spot;
 use walk_words::Walk;
 
-/// The log that leads from the walk `u` to the walk `w`, both from side 0 of a kind, which is one of the tessellation.
-/// None comes where the walks are not related. Which of the logs that lead from `u` to `w` comes is not said.
+/// The log that leads from the walk `u` to the walk `w`, both from side 0 of a kind, which is one
+/// of the tessellation.
+/// None comes where the walks are not related. Which of the logs that lead from `u` to `w` comes is
+/// not said.
 /// It takes time in proportion to the contours along which the walks cross.
 ///
 /// # Errors
 ///
-/// `Deep` comes exactly where a beginning of `u` or of `w` ends at a tile that lies more than 4,000 crossings from the
-/// first one, whether the walks are related or not.
+/// `Deep` comes exactly where a beginning of `u` or of `w` ends at a tile that lies more than 4,000
+/// crossings from the first one, whether the walks are related or not.
 /// `Memory` comes also where a place that the log would tell is not below 2^64.
 pub fn make_log(
     alloc: Global,

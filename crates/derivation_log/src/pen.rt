@@ -1,5 +1,6 @@
 //! A pen: a place in the tree, and the log of the walk that has led there.
-ghost use Rattle.std.specs.Prelude.{◌≡◌, ◌<◌, ◌≤◌, ◌^◌, [], ◌∷◌, ◌++◌, true, length, IfOk, OnOk, IsErrOf};
+ghost use Rattle.std.specs.Prelude.{◌≡◌, ◌<◌, ◌≤◌, ◌^◌, [], ◌∷◌, ◌++◌, true, length, IfOk, OnOk};
+ghost use Rattle.std.specs.Prelude.{IsErrOf};
 ghost use Rattle.tile_model.specs.declared.Letter.TheVariants.{X};
 ghost use Rattle.tile_model.specs.Relation.{Lead};
 ghost use Rattle.tree_model.specs.Contours.{Tree, Opens, Closes};
@@ -10,8 +11,10 @@ ghost use Rattle.spot_laws.specs.Spots.{IsSpot};
 ghost use Rattle.step_engine.specs.Crossings.{CrossesDeep};
 ghost use Rattle.derivation_log.specs.Passing.{PassesFar};
 ghost use Rattle.derivation_log.specs.Drafts.{IsWritten};
-ghost use Rattle.derivation_log.specs.Pens.{at, mark_at, open_log, HasTurnedLeft, HasTurnedRight, HasHopped};
-ghost use Rattle.derivation_log.specs.Pens.{HasMoved, HasRounded, HasCrossed, HasStepped, most_open_at};
+ghost use Rattle.derivation_log.specs.Pens.{at, mark_at, open_log, HasTurnedLeft, HasTurnedRight};
+ghost use Rattle.derivation_log.specs.Pens.{HasHopped};
+ghost use Rattle.derivation_log.specs.Pens.{HasMoved, HasRounded, HasCrossed, HasStepped};
+ghost use Rattle.derivation_log.specs.Pens.{most_open_at};
 
 use crate::draft::{Draft, FULL_TURN, LEFT_AND_RIGHT, ROUND_CORNER, THERE_AND_BACK};
 use crate::place::Place;
@@ -22,7 +25,8 @@ use tree_model::Rule;
 use turn_rules::brackets_fit;
 use walk_words::{Letter, Walk};
 
-/// A place in the tree, and the log of the walk that has led there: it leads from that walk to the word of the place.
+/// A place in the tree, and the log of the walk that has led there: it leads from that walk to the
+/// word of the place.
 #[derive(Drop)]
 pub(crate) struct Pen {
     pub(crate) place: Place,
@@ -42,7 +46,8 @@ impl Pen {
         Ok(())
     }
 
-    /// Faces the side to the right. Past the first side a full turn is inserted, and then left and right is deleted.
+    /// Faces the side to the right. Past the first side a full turn is inserted, and then left and
+    /// right is deleted.
     fn turn_right(&mut self, r: &Rules) -> Result<(), AllocError>
         requires { IsSpot r.now self.old.place }
         ensures { OnOk result (HasTurnedRight r.now self.old self.new) }
@@ -65,7 +70,8 @@ impl Pen {
         Ok(())
     }
 
-    /// Goes across the faced side, which is one of the tree. On the way to the parent there and back is deleted.
+    /// Goes across the faced side, which is one of the tree. On the way to the parent there and
+    /// back is deleted.
     fn hop(&mut self, r: &Rules) -> Result<(), AllocError>
         requires spot { IsSpot r.now self.old.place }
         requires tree { mark_at r.now self.old ≡ Tree }
@@ -80,9 +86,10 @@ impl Pen {
         Ok(())
     }
 
-    /// One move along the contour: a turn to the left, and then across a side of the tree, or past a bracket, which is
-    /// counted.
-    /// Where one opens, a way round the corner is inserted; where one closes, there and back is deleted.
+    /// One move along the contour: a turn to the left, and then across a side of the tree, or past
+    /// a bracket, which is counted.
+    /// Where one opens, a way round the corner is inserted; where one closes, there and back is
+    /// deleted.
     /// It answers whether no bracket is left open.
     fn go_on(&mut self, r: &Rules, brackets: &mut u128) -> Result<bool, AllocError>
         requires spot { IsSpot r.now self.old.place }
@@ -135,7 +142,8 @@ impl Pen {
     }
 
     /// Goes across the faced side, which is Right.
-    /// The log of the crossing the other way is written apart and turned round, and then there and back is deleted.
+    /// The log of the crossing the other way is written apart and turned round, and then there and
+    /// back is deleted.
     fn go_back(&mut self, alloc: Global, r: &Rules) -> Result<(), StepFault>
         requires spot { IsSpot r.now self.old.place }
         requires closes { mark_at r.now self.old ≡ Closes }
@@ -199,13 +207,13 @@ impl Pen {
     }
 }
 
-/// The log that leads from a walk, from side 0 of a kind of the tessellation, to the word of the position to which the
-/// walk leads.
+/// The log that leads from a walk, from side 0 of a kind of the tessellation, to the word of the
+/// position to which the walk leads.
 ///
 /// # Errors
 ///
-/// `Deep` comes only where a beginning of the walk ends at a tile that lies more than 4,000 crossings from the first
-/// one.
+/// `Deep` comes only where a beginning of the walk ends at a tile that lies more than 4,000
+/// crossings from the first one.
 pub(crate) fn log_to_word(alloc: Global, r: &Rules, kind: u8, w: &Walk) -> Result<Draft, StepFault>
     requires { kind < length r.now.kinds }
     ensures leads { IfOk result (λ log. (p : Position)
@@ -225,8 +233,8 @@ pub(crate) fn log_to_word(alloc: Global, r: &Rules, kind: u8, w: &Walk) -> Resul
 }
 
 /// The rules are accepted.
-/// A body that reads nothing of them does not know this of its argument, so those that need it call this one, which
-/// does nothing else.
+/// A body that reads nothing of them does not know this of its argument, so those that need it call
+/// this one, which does nothing else.
 pub(crate) fn accepted(r: &Rules)
     ensures { AreSound r.now }
 {

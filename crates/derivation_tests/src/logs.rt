@@ -1,4 +1,5 @@
-// Logs of walks that are known from outside, followed by a reader that knows the five loops and no rules.
+// Logs of walks that are known from outside, followed by a reader that knows the five loops and no
+// rules.
 use derivation_log::make_log;
 use log_model::Change;
 use sample_tilings::pentagons;
@@ -18,7 +19,8 @@ static RELATED: [(&str, &str); 6] = [
     ("LLLLLXXRL", "-"),
 ];
 
-/// What is written from LXLX to XRXR: whether it is inserted, behind how many letters, and which loop.
+/// What is written from LXLX to XRXR: whether it is inserted, behind how many letters, and which
+/// loop.
 static LOG: [(bool, u64, u8); 11] = [
     (true, 3, 1),
     (true, 0, 1),

@@ -1,7 +1,6 @@
 use Rattle.std.proofs.Common.{Err, ap}
 use Rattle.step_engine.specs.declared.fault.StepFault.TheVariants.{Deep}
-use Rattle.step_engine.proofs.Walks.{same_fault}
-use Rattle.derivation_log.proofs.Far.{deep_passes, passes_deep, was_no_fault}
+use Rattle.derivation_log.proofs.Far.{deep_passes, passes_deep, was_no_fault, same_fault}
 use Rattle.derivation_log.proofs.making.arrive.Goals as goal
 
 pub returns-in_err-walk-clause-deep : goal.returns-in_err-walk-clause-deep

@@ -1,6 +1,6 @@
 use Rattle.std.proofs.Common.{Err, ap, subst}
 use Rattle.step_engine.specs.declared.fault.StepFault.TheVariants.{Deep}
-use Rattle.step_engine.proofs.Walks.{same_fault}
+use Rattle.derivation_log.proofs.Far.{same_fault}
 use Rattle.derivation_log.specs.Passing.{PassesFar}
 use Rattle.derivation_log.proofs.Steps.{following_on, following_far, following_whole}
 use Rattle.derivation_log.proofs.pen.log_to_word.Goals as goal
