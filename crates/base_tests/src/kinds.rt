@@ -52,7 +52,7 @@ fn moves_between_types(rt: HostRuntime) -> Result<(), Fail> {
 }
 
 /// Sides, repeat, partners and valences of a hexagon's place, and the fault that is found first.
-static REFUSED: [(u8, u8, [(u8, u8); 2], [u8; 2], KindFault); 9] = [
+const REFUSED: [(u8, u8, [(u8, u8); 2], [u8; 2], KindFault); 9] = [
     (
         2,
         2,
@@ -148,12 +148,12 @@ static REFUSED: [(u8, u8, [(u8, u8); 2], [u8; 2], KindFault); 9] = [
 #[test]
 fn answers_the_first_fault(rt: HostRuntime) -> Result<(), Fail> {
     let alloc = rt.alloc();
-    for (sides, repeat, partner, valence, want) in &REFUSED {
-        let hexagon = kind(alloc, *sides, *repeat, partner, valence)?;
+    for (sides, repeat, partner, valence, want) in REFUSED {
+        let hexagon = kind(alloc, sides, repeat, &partner, &valence)?;
         let Err((kinds, fault)) = Tessellation::make(heptagons_and(alloc, hexagon)?) else {
             panic!(rt; "accepted in place of {want:?}");
         };
-        assert_eq!(rt; fault, *want);
+        assert_eq!(rt; fault, want);
         assert_eq!(rt; kinds.len(), 2);
     }
     let Err((_, fault)) = Tessellation::make(Vec::new(alloc)) else {
