@@ -1,0 +1,2 @@
+-- Texts of logs, line by line.
+use Rattle.std.proofs.Common.{◌≡◌, ℕ}
