@@ -1,1 +1,3 @@
-pub mod Texts
+pub mod Places
+pub mod Lines
+pub mod Logs

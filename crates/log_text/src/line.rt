@@ -1,14 +1,14 @@
 // The lines of a log: the change that each tells.
 ghost use Rattle.std.specs.Prelude.{◌≡◌, ◌≢◌, ◌≤◌, ◌+◌, ◌∷◌, [], ◌++◌, ℕ, Bool, List, IfSome, IfNone};
 ghost use Rattle.tile_model.specs.Relation.{Change as Entry};
-ghost use Rattle.log_model.specs.LogTexts.{HasText, IsOneLine, StartsBad, change_word, change_text};
+ghost use Rattle.log_model.specs.LogTexts.{HasText, IsOneLine, change_word, change_text};
 
 use crate::place::read_place;
 use log_model::Change;
 use memchr::memchr;
 
 /// The bytes in front of the first line feed, and those behind it.
-fn next_line(bytes: &[u8]) -> Option<(&[u8], &[u8])>
+pub fn next_line(bytes: &[u8]) -> Option<(&[u8], &[u8])>
     ensures split { IfSome result (λ parts. bytes.now ≡ parts.0.now ++ 10 ∷ parts.1.now) }
     ensures line { IfSome result (λ parts. IsOneLine parts.0.now) }
     ensures none { IfNone result (IsOneLine bytes.now) }
@@ -47,7 +47,7 @@ fn read_loop(numbers: &[u8]) -> Option<(&[u8], u8)>
 }
 
 /// The change whose text a line is.
-fn read_change(line: &[u8]) -> Option<Change>
+pub fn read_change(line: &[u8]) -> Option<Change>
     ensures text { IfSome result (λ change. change_text change ≡ line.now) }
     ensures has_text { IfSome result HasText }
     ensures none { IfNone result ((change : Entry) → HasText change
@@ -57,16 +57,4 @@ fn read_change(line: &[u8]) -> Option<Change>
     let (place, which) = read_loop(numbers)?;
     let at = read_place(place)?;
     Some(Change { at, which, insert })
-}
-
-/// The change of the first line, and the bytes behind the line. None where the line is bad.
-pub fn read_line(bytes: &[u8]) -> Option<(Change, &[u8])>
-    ensures split { IfSome result (λ parts.
-        bytes.now ≡ change_text parts.0 ++ 10 ∷ parts.1.now) }
-    ensures has_text { IfSome result (λ parts. HasText parts.0) }
-    ensures none { IfNone result (bytes.now ≢ [] → StartsBad bytes.now) }
-{
-    let (line, behind) = next_line(bytes)?;
-    let change = read_change(line)?;
-    Some((change, behind))
 }

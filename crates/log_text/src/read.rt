@@ -1,9 +1,9 @@
 // Reading the text of a log, line by line.
-ghost use Rattle.std.specs.Prelude.{◌≡◌, ◌⊎◌, ℕ, List, All, IfOk, IsErrOf, MatchResult};
+ghost use Rattle.std.specs.Prelude.{◌≡◌, ◌⊎◌, ℕ, suc, List, length, All, IfOk, IsErrOf, MatchResult};
 ghost use Rattle.tile_model.specs.Relation.{Change as Entry};
 ghost use Rattle.log_model.specs.LogTexts.{HasText, log_text, IsFirstBadLine};
 
-use crate::line::read_line;
+use crate::line::{next_line, read_change};
 use log_model::Change;
 use log_model::laws::text_laws;
 use std::alloc::{AllocError, AllocFailed, Global};
@@ -43,6 +43,13 @@ impl<T: Drop> From<AllocFailed<T>> for LogTextFault {
     }
 }
 
+/// The fault of the line behind those of which these changes were read.
+fn bad_behind(read: &[Change]) -> LogTextFault
+    ensures { result ≡ LogTextFault.Line (suc (length read.now)) }
+{
+    LogTextFault::Line(read.len() as u64 + 1)
+}
+
 /// Reads the text of a log: a line for each change, which a line feed ends, of `ins` or `del`, the
 /// place in digits without leading zeros and less than 2^64, and the digit of the loop, 1 to 5, each
 /// number behind one space. No bytes are the empty log.
@@ -67,12 +74,16 @@ pub fn read_log(alloc: Global, bytes: &[u8]) -> Result<Vec<Change>, LogTextFault
     text_laws();
     let mut log = Vec::new(alloc);
     let mut rest = bytes;
-    while !rest.is_empty() {
-        let Some((change, behind)) = read_line(rest) else {
-            return Err(LogTextFault::Line(log.len() as u64 + 1));
+    while let Some((line, behind)) = next_line(rest) {
+        let Some(change) = read_change(line) else {
+            return Err(bad_behind(&log));
         };
         log.push(change)?;
         rest = behind;
     }
-    Ok(log)
+    if rest.is_empty() {
+        Ok(log)
+    } else {
+        Err(bad_behind(&log))
+    }
 }

@@ -1,2 +1,0 @@
--- Texts of logs, line by line.
-use Rattle.std.proofs.Common.{◌≡◌, ℕ}
