@@ -1,5 +1,5 @@
 -- Texts of logs, one line more at a time.
-use Rattle.std.proofs.Common.{◌≡◌, ◌≢◌, ℕ, suc, List, [], ◌∷◌, ◌++◌, length, refl, sym, ap, ◌∙◌, append_assoc}
+use Rattle.std.proofs.Common.{◌≡◌, ◌≢◌, ℕ, suc, ◌<◌, List, [], ◌∷◌, ◌++◌, length, sym, ap, ◌∙◌, append_assoc, arith}
 use Rattle.std.specs.Prelude.{All}
 use Rattle.std.proofs.lemmas.List.{append-nil, nil_from_length}
 use Rattle.tile_model.specs.Relation.{Change}
@@ -18,18 +18,18 @@ pub line_read : (bytes rest behind : List ℕ) (log : List Change) (c : Change) 
 line_read bytes rest behind log c split line =
     split ∙ ap (λ (l : List ℕ). log_text log ++ l) line ∙ sym (log_text-push log c behind)
 
--- what is left begins with the first bad line
-pub bad_behind : (bytes rest : List ℕ) (log : List Change) → All HasText log → bytes ≡ log_text log ++ rest → StartsBad rest → IsFirstBadLine bytes (suc (length log))
-bad_behind bytes rest log have_text split bad = record {
+-- where bytes are left, they begin with the first bad line
+pub bad_behind : (bytes rest : List ℕ) (log : List Change) (n : ℕ) → All HasText log → bytes ≡ log_text log ++ rest → (rest ≢ [] → StartsBad rest) → 0 < length rest → n ≡ suc (length log) → IsFirstBadLine bytes n
+bad_behind bytes rest log n texts split bad left number = record {
   before = log;
-  have_text = have_text;
+  have_text = texts;
   rest = rest;
   split = split;
-  number = refl;
-  bad = bad;
+  number = number;
+  bad = bad (λ none. omega (arith, ap length none, left));
 }
 
--- nothing is left
+-- where none are, they are the text of the log
 pub all_read : (bytes rest : List ℕ) (log : List Change) → bytes ≡ log_text log ++ rest → length rest ≡ 0 → log_text log ≡ bytes
 all_read bytes rest log split ended =
     sym (append-nil (log_text log)) ∙ ap (λ (l : List ℕ). log_text log ++ l) (sym (nil_from_length rest ended)) ∙ sym split

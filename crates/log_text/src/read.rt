@@ -1,12 +1,12 @@
 // Reading the text of a log, line by line.
-ghost use Rattle.std.specs.Prelude.{◌≡◌, ◌⊎◌, ℕ, suc, List, length, All, IfOk, IsErrOf, MatchResult};
+ghost use Rattle.std.specs.Prelude.{◌≡◌, ◌≢◌, ◌⊎◌, ℕ, List, [], ◌++◌, All, IfOk, IsErrOf, MatchResult};
 ghost use Rattle.tile_model.specs.Relation.{Change as Entry};
-ghost use Rattle.log_model.specs.LogTexts.{HasText, log_text, IsFirstBadLine};
+ghost use Rattle.log_model.specs.LogTexts.{HasText, log_text, StartsBad, IsFirstBadLine};
 
 use crate::line::{next_line, read_change};
 use log_model::Change;
 use log_model::laws::text_laws;
-use std::alloc::{AllocError, AllocFailed, Global};
+use std::alloc::{AllocError, Global};
 use thiserror::Error;
 
 /// Why no log was read.
@@ -32,22 +32,24 @@ impl From<AllocError> for LogTextFault {
     }
 }
 
-impl<T: Drop> From<AllocFailed<T>> for LogTextFault {
-    ghost use Rattle.std.specs.Prelude.{◌≡◌};
-    ghost use Rattle.log_text.specs.declared.read.LogTextFault.TheVariants.{Memory};
-
-    ghost from_gives = { λ _ fault. fault ≡ Memory };
-
-    fn from(_: AllocFailed<T>) -> Self {
-        LogTextFault::Memory
-    }
-}
-
-/// The fault of the line behind those of which these changes were read.
-fn bad_behind(read: &[Change]) -> LogTextFault
-    ensures { result ≡ LogTextFault.Line (suc (length read.now)) }
+/// The changes of the lines before the first bad one, and the bytes from there on: none where no
+/// line is bad.
+fn read_changes(alloc: Global, bytes: &[u8]) -> Result<(Vec<Change>, &[u8]), AllocError>
+    ensures texts { IfOk result (λ parts. All HasText parts.0.items) }
+    ensures split { IfOk result (λ parts.
+        bytes.now ≡ log_text parts.0.items ++ parts.1.now) }
+    ensures bad { IfOk result (λ parts. parts.1.now ≢ [] → StartsBad parts.1.now) }
 {
-    LogTextFault::Line(read.len() as u64 + 1)
+    let mut log = Vec::new(alloc);
+    let mut rest = bytes;
+    while let Some((line, behind)) = next_line(rest) {
+        let Some(change) = read_change(line) else {
+            return Ok((log, rest));
+        };
+        log.push(change)?;
+        rest = behind;
+    }
+    Ok((log, rest))
 }
 
 /// Reads the text of a log: a line for each change, which a line feed ends, of `ins` or `del`, the
@@ -72,18 +74,9 @@ pub fn read_log(alloc: Global, bytes: &[u8]) -> Result<Vec<Change>, LogTextFault
 {
     // That a text is that of one log, and that one line is the first bad one, are laws.
     text_laws();
-    let mut log = Vec::new(alloc);
-    let mut rest = bytes;
-    while let Some((line, behind)) = next_line(rest) {
-        let Some(change) = read_change(line) else {
-            return Err(bad_behind(&log));
-        };
-        log.push(change)?;
-        rest = behind;
+    let (log, rest) = read_changes(alloc, bytes)?;
+    if !rest.is_empty() {
+        return Err(LogTextFault::Line(log.len() as u64 + 1));
     }
-    if rest.is_empty() {
-        Ok(log)
-    } else {
-        Err(bad_behind(&log))
-    }
+    Ok(log)
 }

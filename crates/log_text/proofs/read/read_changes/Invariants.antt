@@ -2,7 +2,7 @@
 use Rattle.std.proofs.Common.{◌≡◌, ◌++◌, length}
 use Rattle.std.specs.Prelude.{All}
 use Rattle.log_model.specs.LogTexts.{HasText, log_text}
-use Rattle.log_text.proofs.read.read_log.Given as goal
+use Rattle.log_text.proofs.read.read_changes.Given as goal
 
 abbrev pub invariant-loop-line : goal.invariant-loop-line
 invariant-loop-line l = record {
