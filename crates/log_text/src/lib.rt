@@ -6,6 +6,8 @@ mod line;
 mod place;
 mod print;
 mod read;
+#[cfg(test)]
+mod tests;
 
 pub use print::print_log;
 pub use read::{LogTextFault, read_log};
