@@ -48,7 +48,9 @@ fn reads_and_prints(rt: HostRuntime) -> Result<(), Fail> {
     let log = read_log(alloc, TEXT.as_bytes())?;
     let mut said = LOG.iter();
     for change in &log {
-        let here = said.next().map(|&(insert, at, which)| Change { at, which, insert });
+        let here = said
+            .next()
+            .map(|&(insert, at, which)| Change { at, which, insert });
         assert_eq!(rt; Some(*change), here);
     }
     assert_eq!(rt; said.next(), None);

@@ -1,4 +1,4 @@
-use Rattle.std.proofs.Common.{◌≡◌, ℕ, get_or, length, sym, ap, ◌∙◌, List, inl, inr, arith}
+use Rattle.std.proofs.Common.{◌≡◌, ℕ, get_or, length, ap, ◌∙◌, List, inl, inr, arith}
 use Rattle.std.proofs.lemmas.Fmt.{decimal_nonempty}
 use Rattle.log_text.proofs.Places.{some_place, no_place, leading_zero}
 use Rattle.log_text.proofs.place.read_place.Goals as goal

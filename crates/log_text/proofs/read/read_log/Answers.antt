@@ -1,7 +1,6 @@
 -- Bytes that are left begin with the first bad line, which the laws tell apart from all else.
-use Rattle.std.proofs.Common.{◌≡◌, ℕ, ◌+◌, ap, inl, arith}
+use Rattle.std.proofs.Common.{◌+◌, ap, inl, arith}
 use Rattle.std.proofs.lemmas.Bool.Decides.{nat_tests}
-use Rattle.log_model.specs.LogTexts.{IsFirstBadLine}
 use Rattle.log_text.specs.declared.read.LogTextFault.TheVariants.{Line}
 use Rattle.log_text.proofs.Logs.{bad_behind, all_read}
 use Rattle.log_text.proofs.read.read_log.Goals as goal
