@@ -3,7 +3,7 @@ use Rattle.std.proofs.Common.{◌≡◌, ◌≢◌, ℕ, zero, suc, ◌+◌, ◌
 use Rattle.std.specs.Prelude.{Option, IfSome, IfNone, SomeIff, decimal}
 use Rattle.std.specs.Char.{digit_value}
 use Rattle.std.specs.Str.Parse.{AllDigits, digits_value}
-use Rattle.std.proofs.lemmas.Fmt.{decimal_is_IsNumeral, decimal_digit, first_decimal, decimal-digits_value}
+use Rattle.std.proofs.lemmas.Fmt.{decimal_is_IsNumeral, decimal_digit, decimal_nonempty, first_decimal, decimal-digits_value}
 use Rattle.std.proofs.lemmas.Int.Digits.{digits_value_more}
 use Rattle.std.proofs.lemmas.List.{take_all}
 use Rattle.std.proofs.lemmas.Str.{digit_value_digit}
@@ -40,18 +40,23 @@ place_number bytes place small text =
     (subst (λ (ds : List ℕ). AllDigits 10 ds) text numeral.0.1, omega (arith, value))
 
 -- a number without a leading zero is the text of its value
-pub some_place : (bytes : List ℕ) (r : Option ℕ) → 0 < length bytes → (get_or bytes 0 0 ≡ 48 → length bytes ≡ 1) → SomeIff r (WriteNumber bytes) (digits_value 10 bytes) → IfSome r (λ place. decimal place ≡ bytes)
-some_place bytes None some first is = tt
-some_place bytes (Some place) some first is =
-    ap decimal is.1 ∙ decimal-digits_value by_digits bytes is.0.0 some first is.0.1
+pub some_place : (bytes : List ℕ) (r : Option ℕ) → 0 < length bytes → ¬ ((get_or bytes 0 0 ≡ 48) × (1 < length bytes)) → SomeIff r (WriteNumber bytes) (digits_value 10 bytes) → IfSome r (λ place. decimal place ≡ bytes)
+some_place bytes None some plain is = tt
+some_place bytes (Some place) some plain is =
+    let alone : get_or bytes 0 0 ≡ 48 → length bytes ≡ 1 = λ zero. omega (arith, some, λ (more : 1 < length bytes). plain (zero, more)) in
+    ap decimal is.1 ∙ decimal-digits_value by_digits bytes is.0.0 some alone is.0.1
 
 pub no_place : (bytes : List ℕ) (r : Option ℕ) → SomeIff r (WriteNumber bytes) (digits_value 10 bytes) → IfNone r ((place : ℕ) → place < 2 ^ 64 → decimal place ≢ bytes)
 no_place bytes None is = λ place small text. is (place_number bytes place small text)
 no_place bytes (Some place) is = tt
 
--- no place has a leading zero before another digit
-pub leading_zero : (bytes : List ℕ) → get_or bytes 0 0 ≡ 48 → 1 < length bytes → (place : ℕ) → place < 2 ^ 64 → decimal place ≢ bytes
-leading_zero bytes first more zero small text =
-    omega (arith, more, ap length (sym (decimal_digit 0 (omega arith)) ∙ text))
-leading_zero bytes first more (suc n) small text =
-    omega (arith, first, first_decimal (suc n) (omega arith) small, ap (λ (ds : List ℕ). get_or ds 0 0) text)
+-- the text of a place has a byte, and no zero before another one
+pub no_bytes : (bytes : List ℕ) → length bytes ≡ 0 → (place : ℕ) → place < 2 ^ 64 → decimal place ≢ bytes
+no_bytes bytes none place small text =
+    omega (arith, none, decimal_nonempty place small, ap length text)
+
+pub leading_zero : (bytes : List ℕ) → (get_or bytes 0 0 ≡ 48) × (1 < length bytes) → (place : ℕ) → place < 2 ^ 64 → decimal place ≢ bytes
+leading_zero bytes leading zero small text =
+    omega (arith, leading.1, ap length (sym (decimal_digit 0 (omega arith)) ∙ text))
+leading_zero bytes leading (suc n) small text =
+    omega (arith, leading.0, first_decimal (suc n) (omega arith) small, ap (λ (ds : List ℕ). get_or ds 0 0) text)

@@ -1,5 +1,5 @@
 // The place that a line tells, in digits without leading zeros.
-ghost use Rattle.std.specs.Prelude.{◌≡◌, ◌≢◌, ℕ, ◌+◌, ◌*◌, ◌<◌, ◌^◌, IfSome, IfNone, SomeIff, decimal};
+ghost use Rattle.std.specs.Prelude.{◌≡◌, ◌≢◌, ◌↔◌, ℕ, ◌+◌, ◌*◌, ◌<◌, ◌^◌, IsTrue, length, slice_index, IfSome, IfNone, SomeIff, decimal};
 ghost use Rattle.std.specs.Char.{digit_value};
 ghost use Rattle.std.specs.Str.Parse.{AllDigits, digits_value};
 
@@ -29,13 +29,19 @@ fn value_of(digits: &[u8]) -> Option<u64>
     Some(value)
 }
 
+/// Whether a zero stands before another byte.
+fn has_leading_zero(bytes: &[u8]) -> bool
+    ensures { IsTrue result ↔ (slice_index bytes.now 0 ≡ 48) × (1 < length bytes.now) }
+{
+    bytes.len() > 1 && bytes[0] == b'0'
+}
+
 /// The place that the bytes write: one digit or more without leading zeros, and less than 2^64.
 pub fn read_place(bytes: &[u8]) -> Option<u64>
     ensures some { IfSome result (λ place. decimal place ≡ bytes.now) }
     ensures none { IfNone result ((place : ℕ) → place < 2 ^ 64 → decimal place ≢ bytes.now) }
 {
-    let first = bytes.first()?;
-    if *first == b'0' && bytes.len() > 1 {
+    if bytes.is_empty() || has_leading_zero(bytes) {
         return None;
     }
     value_of(bytes)
