@@ -60,6 +60,7 @@ fn read_changes(alloc: Global, bytes: &[u8]) -> Result<(Vec<Change>, &[u8]), All
 /// # Errors
 ///
 /// `Line` is the first line that is written otherwise, counted from 1; it comes wherever a line is.
+/// `Memory` comes where there is none for the changes.
 pub fn read_log(alloc: Global, bytes: &[u8]) -> Result<Vec<Change>, LogTextFault>
     ensures text { IfOk result (λ log.
         All HasText log.items × (log_text log.items ≡ bytes.now)) }
