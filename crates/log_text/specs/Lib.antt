@@ -1,0 +1,1 @@
+-- Definitions of this crate: none, its contracts speak of logs and their texts as log_model has them.
