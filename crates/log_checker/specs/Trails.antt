@@ -41,7 +41,3 @@ pub record IsWith (place : ℕ) (middle u w : List TypedLetter) : Type 0 where
 pub record KeepsFront (pieces others : List (List TypedLetter)) (i : ℕ) : Type 0 where
   pub inside : i < length others
   pub front : take i others ≡ take i pieces
-
--- the second list begins with the first
-abbrev pub GoesOn : List TypedLetter → List TypedLetter → Type 0
-GoesOn first second = (rest : List TypedLetter) × (second ≡ first ++ rest)

@@ -195,10 +195,13 @@ fn without<'a>(w: &'a [Letter], marks: &[Mark]) -> Option<&'a [Letter]>
 {
     let mut rest = w;
     for mark in marks {
-        match rest.split_first() {
-            Some((x, behind)) if *x == mark.letter => rest = behind,
-            _ => return None,
+        let Some((first, behind)) = rest.split_first() else {
+            return None;
+        };
+        if *first != mark.letter {
+            return None;
         }
+        rest = behind;
     }
     Some(rest)
 }

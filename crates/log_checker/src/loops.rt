@@ -23,15 +23,14 @@ pub(crate) fn loop_at(
     ensures none { IfOk result (λ found.
         IfNone found ((letters : List Letter) → ¬ (IsLoop t.now at which letters))) }
 {
-    let letters = match which {
-        1 => repeated(alloc, 1, &[Letter::X, Letter::X])?,
-        2 => repeated(alloc, 1, &[Letter::L, Letter::R])?,
-        3 => repeated(alloc, 1, &[Letter::R, Letter::L])?,
-        4 => lefts(alloc, t.sides(at))?,
-        5 => repeated(alloc, t.valence(at), &[Letter::L, Letter::X])?,
-        _ => return Ok(None),
-    };
-    Ok(Some(letters))
+    match which {
+        1 => Ok(Some(repeated(alloc, 1, &[Letter::X, Letter::X])?)),
+        2 => Ok(Some(repeated(alloc, 1, &[Letter::L, Letter::R])?)),
+        3 => Ok(Some(repeated(alloc, 1, &[Letter::R, Letter::L])?)),
+        4 => Ok(Some(lefts(alloc, t.sides(at))?)),
+        5 => Ok(Some(repeated(alloc, t.valence(at), &[Letter::L, Letter::X])?)),
+        _ => Ok(None),
+    }
 }
 
 /// So many letters L.

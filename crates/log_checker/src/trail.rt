@@ -1,7 +1,7 @@
 //! A walk in pieces, in which loops are put and from which they are taken.
 ghost use Rattle.std.specs.Prelude.{◌≡◌, ◌≢◌, ◌+◌, ◌<◌, ◌≤◌, ◌⊎◌, [], false, length, take, drop};
 ghost use Rattle.std.specs.Prelude.{IsTrue, IfOk, OnOk};
-ghost use Rattle.log_checker.specs.Trails.{joined, piece_at, IsWith, KeepsFront, GoesOn};
+ghost use Rattle.log_checker.specs.Trails.{joined, piece_at, IsWith, KeepsFront};
 
 use crate::marks::Mark;
 use crate::piece::Piece;
@@ -66,7 +66,7 @@ pub(crate) fn take_out(
             (drop (length (joined (take index pieces.old.items)) + offset)
                 (joined pieces.old.items)) ≢ middle.now) }
 {
-    gather(pieces, index, offset + middle.len())?;
+    gather(pieces, index, offset, middle.len())?;
     let piece = &mut pieces[index];
     if !piece.take_out(alloc, offset, middle)? {
         return Ok(false);
@@ -75,18 +75,23 @@ pub(crate) fn take_out(
     Ok(true)
 }
 
-/// Moves letters from the pieces behind to the end of a piece, until it has as many as are wanted
-/// or none are left behind it.
-fn gather(pieces: &mut Vec<Piece>, index: usize, wanted: usize) -> Result<(), AllocError>
-    requires { index < length pieces.old.items }
+/// Moves letters from the pieces behind to the end of a piece, until it has as many behind an offset
+/// as are wanted or none are left behind it.
+fn gather(
+    pieces: &mut Vec<Piece>,
+    index: usize,
+    offset: usize,
+    wanted: usize,
+) -> Result<(), AllocError>
+    requires inside { index < length pieces.old.items }
+    requires within { offset ≤ length (piece_at pieces.old.items index) }
     ensures same { OnOk result (joined pieces.new.items ≡ joined pieces.old.items) }
     ensures front { OnOk result (KeepsFront pieces.old.items pieces.new.items index) }
-    ensures begins { OnOk result 
-        (GoesOn (piece_at pieces.old.items index) (piece_at pieces.new.items index)) }
-    ensures enough { OnOk result (wanted ≤ length (piece_at pieces.new.items index)
+    ensures within { OnOk result (offset ≤ length (piece_at pieces.new.items index)) }
+    ensures enough { OnOk result (wanted + offset ≤ length (piece_at pieces.new.items index)
         ⊎ (drop (index + 1) pieces.new.items ≡ [])) }
 {
-    while pieces[index].len() < wanted && index + 1 < pieces.len() {
+    while pieces[index].len() - offset < wanted && index + 1 < pieces.len() {
         let next = pieces.remove(index + 1);
         let piece = &mut pieces[index];
         piece.extend(next.marks())?;
