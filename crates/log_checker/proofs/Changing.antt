@@ -80,3 +80,19 @@ module _ (kinds : List TileKind) (valid : IsValid kinds) (d : ℕ × ℕ) where
         let behind : h.behind ≡ marked kinds t back = marked_behind kinds t (marked kinds t loop) h.behind middle ∙ ap (λ e. marked kinds e back) (ap (type_of kinds t) (letters_marked kinds t loop) ∙ loop_type kinds valid t is) in
         let whole : u ≡ marked kinds d (front ++ back) = h.without ∙ ap₂ (λ a b. a ++ b) before behind ∙ ap (λ e. marked kinds d front ++ marked kinds e back) (sym same) ∙ sym (marked_append kinds d front back) in
         is_marked kinds d (front ++ back) u whole
+
+module _ (kinds : List TileKind) (d : ℕ × ℕ) where
+  -- a loop that is allowed to be deleted follows
+  follows : (c : Change) (t : ℕ × ℕ) (loop v : List Letter) (w : List TypedLetter) → AreMarked kinds d w → c.insert ≡ false → t ≡ type_of kinds d (take c.at (letters w)) → IsLoop kinds t c.loop loop → Changes kinds d c (letters w) v → take (length (marked kinds t loop)) (drop c.at w) ≡ marked kinds t loop
+  follows c t loop v w m delete type is (inserts before l behind insert at is' from to) = absurd (cc (delete, insert))
+  follows c t loop v w m delete type is (deletes before l behind insert at is' from to) =
+      let front : take c.at (letters w) ≡ before = ap (take c.at) from ∙ take_at before (l ++ behind) c.at (sym at) in
+      let same : type_of kinds d before ≡ t = sym (type ∙ ap (type_of kinds d) front) in
+      let one : l ≡ loop = one_loop kinds t c.loop l loop (subst (λ e. IsLoop kinds e c.loop l) same is') is in
+      let rest = marked kinds (type_of kinds t loop) behind in
+      let whole : w ≡ marked kinds d before ++ (marked kinds t loop ++ rest) = m ∙ ap (marked kinds d) from ∙ marked_append kinds d before (l ++ behind) ∙ ap₂ (λ e k. marked kinds d before ++ marked kinds e (k ++ behind)) same one ∙ ap (λ k. marked kinds d before ++ k) (marked_append kinds t loop behind) in
+      let size : length (marked kinds d before) ≡ c.at = length_marked kinds d before ∙ sym at in
+      ap (λ k. take (length (marked kinds t loop)) (drop c.at k)) whole ∙ ap (take (length (marked kinds t loop))) (drop_at (marked kinds d before) (marked kinds t loop ++ rest) c.at size) ∙ take_at (marked kinds t loop) rest (length (marked kinds t loop)) refl
+
+  pub not_followed : (c : Change) (t : ℕ × ℕ) (loop : List Letter) (w : List TypedLetter) → AreMarked kinds d w → c.insert ≡ false → t ≡ type_of kinds d (take c.at (letters w)) → IsLoop kinds t c.loop loop → take (length (marked kinds t loop)) (drop c.at w) ≢ marked kinds t loop → ¬ (IsAllowed kinds d c (letters w))
+  not_followed c t loop w m delete type is not_there allowed = not_there (follows c t loop allowed.0 w m delete type is allowed.1)

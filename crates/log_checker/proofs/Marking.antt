@@ -1,6 +1,6 @@
 -- Walks of which each letter tells its type: their letters, and what stands at a place.
 use Rattle.std.proofs.Common.{◌≡◌, ℕ, zero, suc, ◌+◌, ◌<◌, ◌≤◌, List, [], ◌∷◌, ◌++◌, length, take, drop, slice_index_or, refl, sym, ap, ap₂, ◌∙◌, subst, arith, append_assoc, length-append}
-use Rattle.std.proofs.lemmas.List.{map-append, length-map, take_at, drop_at}
+use Rattle.std.proofs.lemmas.List.{map-append, length-map, take_at, drop_at, append_cancel_left}
 use Rattle.tile_model.specs.declared.Letter.{Letter}
 use Rattle.tile_model.specs.Tessellations.{TileKind}
 use Rattle.tile_model.specs.Walks.{step, type_of}
@@ -11,6 +11,19 @@ letters_append a b = map-append (λ (m : TypedLetter). m.0) a b
 
 pub length_letters : (m : List TypedLetter) → length (letters m) ≡ length m
 length_letters m = length-map m (λ (x : TypedLetter). x.0)
+
+-- the letters, round one of them
+letters_at : (m : List TypedLetter) (i : ℕ) (x : TypedLetter) → i < length m → x ≡ slice_index_or m i x → letters m ≡ letters (take i m) ++ (x.0 ∷ letters (drop (suc i) m))
+letters_at [] i x h e = absurd (omega (arith, h))
+letters_at (y ∷ m) zero x h e = ap (λ (z : TypedLetter). z.0 ∷ letters m) (sym e)
+letters_at (y ∷ m) (suc i) x h e = ap (λ k. y.0 ∷ k) (letters_at m i x (omega (arith, h)) e)
+
+-- a walk that goes on with another letter does not begin with the letters
+pub other_letter : (m : List TypedLetter) (i : ℕ) (x : TypedLetter) (w rest behind r : List Letter) (first : Letter) → i < length m → x ≡ slice_index_or m i x → w ≡ letters (take i m) ++ rest → rest ≡ first ∷ behind → w ≡ letters m ++ r → first ≡ x.0
+other_letter m i x w rest behind r first h e so_far goes whole =
+    let split : letters m ++ r ≡ letters (take i m) ++ (x.0 ∷ (letters (drop (suc i) m) ++ r)) = ap (λ k. k ++ r) (letters_at m i x h e) ∙ append_assoc (letters (take i m)) (x.0 ∷ letters (drop (suc i) m)) r in
+    let same : rest ≡ x.0 ∷ (letters (drop (suc i) m) ++ r) = append_cancel_left (letters (take i m)) rest (x.0 ∷ (letters (drop (suc i) m) ++ r)) (sym so_far ∙ whole ∙ split) in
+    cc (goes, same)
 
 module _ (kinds : List TileKind) where
   pub letters_marked : (d : ℕ × ℕ) (v : List Letter) → letters (marked kinds d v) ≡ v

@@ -189,3 +189,34 @@ piece_within ps i b g =
     let front = joined (take i ps) in
     let behind = joined (drop (suc i) ps) in
     omega (arith, g.counted, ap length (joined_at ps i g.inside), length-append front (piece_at ps i ++ behind), length-append (piece_at ps i) behind)
+
+-- one more piece at the end
+pub joined_push : (ps : List (List TypedLetter)) (p : List TypedLetter) → joined (ps ++ p ∷ []) ≡ joined ps ++ p
+joined_push ps p = joined_append ps (p ∷ []) ∙ ap (λ m. joined ps ++ m) (append-nil p)
+
+-- a piece cut from the front of the rest
+pub cut_from : (ps qs : List (List TypedLetter)) (n : ℕ) (p front back rest : List TypedLetter) → qs ≡ ps ++ p ∷ [] → p ≡ front → front ≡ take n rest → back ≡ drop n rest → joined qs ++ back ≡ joined ps ++ rest
+cut_from ps qs n p front back rest e same f b =
+    ap (λ m. joined m ++ back) e ∙ ap (λ m. m ++ back) (joined_push ps p) ∙ append_assoc (joined ps) p back ∙ ap (λ m. joined ps ++ m) (ap₂ (λ x y. x ++ y) (same ∙ f) b ∙ take-append-drop n rest)
+
+-- a piece and the next one made one, as the code does it: the next one is taken out, and its letters are added
+module _ (ps rs : List (List TypedLetter)) (i : ℕ) (p n q : List TypedLetter) (out : rs ≡ remove ps (i + 1)) (h : i + 1 < length ps) (first : p ≡ slice_index_or rs i p) (next : n ≡ slice_index_or ps (i + 1) n) (sum : q ≡ p ++ n) where
+  first_is : p ≡ piece_at ps i
+  first_is =
+      let few : i < length rs = omega (arith, ap length out, length-remove ps (i + 1) h, h) in
+      read_piece rs i p few first ∙ ap (λ m. piece_at m i) out ∙ piece_removed ps i h
+
+  sum_is : q ≡ piece_at ps i ++ piece_at ps (i + 1)
+  sum_is = sum ∙ ap₂ (λ x y. x ++ y) first_is (read_piece ps (i + 1) n h next)
+
+  pub gathered_same : joined (slice_set rs i q) ≡ joined ps
+  gathered_same = ap (λ m. joined (slice_set m i q)) out ∙ merged ps i q h sum_is
+
+  pub gathered_front : (start : List (List TypedLetter)) → KeepsFront start ps i → KeepsFront start (slice_set rs i q) i
+  gathered_front start k = subst (λ m. KeepsFront start (slice_set m i q) i) (sym out) (keeps_merged start ps i q k h)
+
+  pub gathered_within : (offset : ℕ) → offset ≤ length (piece_at ps i) → offset ≤ length (piece_at (slice_set rs i q) i)
+  gathered_within offset within =
+      let few : i < length rs = omega (arith, ap length out, length-remove ps (i + 1) h, h) in
+      let size : length q ≡ length (piece_at ps i) + length (piece_at ps (i + 1)) = ap length sum_is ∙ length-append (piece_at ps i) (piece_at ps (i + 1)) in
+      omega (arith, within, size, ap length (piece_set rs i q few))

@@ -3,6 +3,7 @@ ghost use Rattle.std.specs.Prelude.{◌≡◌, ◌≢◌, ◌↔◌, ◌++◌, �
 ghost use Rattle.std.specs.Prelude.{IsTrue, IsOk, IfOk, IsErrOf, IfSome, IfNone};
 ghost use Rattle.tile_model.specs.declared.Letter.{Letter};
 ghost use Rattle.tile_model.specs.Tessellations.{IsType};
+ghost use Rattle.tile_model.specs.Validity.{IsValid};
 ghost use Rattle.tile_model.specs.Walks.{type_of};
 ghost use Rattle.tile_model.specs.Relation.{Changes, Lead};
 ghost use Rattle.log_model.specs.Logs.{IsAllowed, IsFirstRefused, LeadsElsewhere};
@@ -70,6 +71,7 @@ pub fn verify(
         → IsFirstRefused t.now from u.now log.now n }
     ensures end { IsErrOf result LogFault.End → LeadsElsewhere t.now from log.now u.now w.now }
 {
+    let _valid = t.all_kinds();
     let mut trail = Trail::new(alloc, t, from, u.letters())?;
     for (done, change) in log.iter().enumerate() {
         if !trail.apply(alloc, t, from, *change)? {
@@ -120,6 +122,7 @@ impl Trail {
         from: DartType,
         change: Change,
     ) -> Result<bool, AllocError>
+        requires valid { IsValid t.now }
         requires is_type { IsType t.now from }
         requires marked { AreMarked t.now from (joined self.old.pieces.items) }
         requires begins { Begins self.old.pieces.items self.old.near.index self.old.near.before }
@@ -143,11 +146,12 @@ impl Trail {
         let middle = with_types(alloc, t, at, &letters)?;
         let offset = (change.at - near.before) as usize;
         self.near = near;
-        if !change.insert {
-            return take_out(alloc, &mut self.pieces, near.index, offset, &middle);
+        if change.insert {
+            put(alloc, &mut self.pieces, near.index, offset, &middle)?;
+            return Ok(true);
         }
-        put(alloc, &mut self.pieces, near.index, offset, &middle)?;
-        Ok(true)
+        let done = take_out(alloc, &mut self.pieces, near.index, offset, &middle)?;
+        Ok(done)
     }
 }
 
@@ -159,6 +163,7 @@ fn type_at(
     near: Start,
     place: u64,
 ) -> DartType
+    requires valid { IsValid t.now }
     requires is_type { IsType t.now from }
     requires marked { AreMarked t.now from (joined pieces.now) }
     requires covers { Covers pieces.now near.index near.before place }
@@ -187,6 +192,13 @@ fn is_walk(pieces: &[Piece], w: &[Letter]) -> bool
     rest.is_empty()
 }
 
+/// Whether two letters are the same.
+fn are_same(x: Letter, y: Letter) -> bool
+    ensures { IsTrue result ↔ (x ≡ y) }
+{
+    x == y
+}
+
 /// What follows the letters of a piece in a walk. None comes where the walk does not begin with
 /// them.
 fn without<'a>(w: &'a [Letter], marks: &[Mark]) -> Option<&'a [Letter]>
@@ -198,7 +210,7 @@ fn without<'a>(w: &'a [Letter], marks: &[Mark]) -> Option<&'a [Letter]>
         let Some((first, behind)) = rest.split_first() else {
             return None;
         };
-        if *first != mark.letter {
+        if !are_same(*first, mark.letter) {
             return None;
         }
         rest = behind;

@@ -43,7 +43,8 @@ pub(crate) fn put(
 {
     let piece = &mut pieces[index];
     piece.put(alloc, offset, middle)?;
-    halve(alloc, pieces, index)
+    halve(alloc, pieces, index)?;
+    Ok(())
 }
 
 /// Takes letters out that stand behind so many of a piece, at most as many as it has. It answers
