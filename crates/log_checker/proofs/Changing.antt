@@ -94,5 +94,52 @@ module _ (kinds : List TileKind) (d : ℕ × ℕ) where
       let size : length (marked kinds d before) ≡ c.at = length_marked kinds d before ∙ sym at in
       ap (λ k. take (length (marked kinds t loop)) (drop c.at k)) whole ∙ ap (take (length (marked kinds t loop))) (drop_at (marked kinds d before) (marked kinds t loop ++ rest) c.at size) ∙ take_at (marked kinds t loop) rest (length (marked kinds t loop)) refl
 
-  pub not_followed : (c : Change) (t : ℕ × ℕ) (loop : List Letter) (w : List TypedLetter) → AreMarked kinds d w → c.insert ≡ false → t ≡ type_of kinds d (take c.at (letters w)) → IsLoop kinds t c.loop loop → take (length (marked kinds t loop)) (drop c.at w) ≢ marked kinds t loop → ¬ (IsAllowed kinds d c (letters w))
+  not_followed : (c : Change) (t : ℕ × ℕ) (loop : List Letter) (w : List TypedLetter) → AreMarked kinds d w → c.insert ≡ false → t ≡ type_of kinds d (take c.at (letters w)) → IsLoop kinds t c.loop loop → take (length (marked kinds t loop)) (drop c.at w) ≢ marked kinds t loop → ¬ (IsAllowed kinds d c (letters w))
   not_followed c t loop w m delete type is not_there allowed = not_there (follows c t loop allowed.0 w m delete type is allowed.1)
+
+  place_within : (c : Change) (u v : List Letter) → Changes kinds d c u v → c.at ≤ length u
+  place_within c u v (inserts before loop behind insert at is from to) = omega (arith, at, ap length from, length-append before behind)
+  place_within c u v (deletes before loop behind delete at is from to) = omega (arith, at, ap length from, length-append before (loop ++ behind))
+
+  -- no change is allowed past the end
+  pub not_past : (c : Change) (u : List Letter) → length u < c.at → ¬ (IsAllowed kinds d c u)
+  not_past c u past allowed = let within = place_within c u allowed.0 allowed.1 in omega (arith, past, within)
+
+  loop_there : (c : Change) (u v : List Letter) → Changes kinds d c u v → (loop : List Letter) × IsLoop kinds (type_of kinds d (take c.at u)) c.loop loop
+  loop_there c u v (inserts before loop behind insert at is from to) =
+      let front : before ≡ take c.at u = sym (ap (take c.at) from ∙ take_at before behind c.at (sym at)) in
+      (loop, subst (λ b. IsLoop kinds (type_of kinds d b) c.loop loop) front is)
+  loop_there c u v (deletes before loop behind delete at is from to) =
+      let front : before ≡ take c.at u = sym (ap (take c.at) from ∙ take_at before (loop ++ behind) c.at (sym at)) in
+      (loop, subst (λ b. IsLoop kinds (type_of kinds d b) c.loop loop) front is)
+
+  -- nor one whose loop is none of the five
+  pub not_without_loop : (c : Change) (u : List Letter) (t : ℕ × ℕ) (n : ℕ) → n ≡ c.loop → t ≡ type_of kinds d (take c.at u) → ((loop : List Letter) → ¬ (IsLoop kinds t n loop)) → ¬ (IsAllowed kinds d c u)
+  not_without_loop c u t n number type none allowed =
+      let there = loop_there c u allowed.0 allowed.1 in
+      none there.0 (subst (λ e. IsLoop kinds e n there.0) (sym type) (subst (λ k. IsLoop kinds (type_of kinds d (take c.at u)) k there.0) (sym number) there.1))
+
+-- What the code puts in and takes out is a change, and what it does not find is none.
+module _ (kinds : List TileKind) (valid : IsValid kinds) (d : ℕ × ℕ) (c : Change) (place : ℕ) (t : ℕ × ℕ) (n : ℕ) (loop : List Letter) (middle u w : List TypedLetter) (at : place ≡ c.at) (number : n ≡ c.loop) (typed : middle ≡ marked kinds t loop) (is : IsLoop kinds t n loop) where
+  -- the same in the words of the change
+  put_there : IsWith place middle u w → IsWith c.at (marked kinds t loop) u w
+  put_there h = subst (λ m. IsWith c.at m u w) typed (subst (λ k. IsWith k middle u w) at h)
+
+  is_loop : IsLoop kinds t c.loop loop
+  is_loop = subst (λ k. IsLoop kinds t k loop) number is
+
+  pub put_keeps : t ≡ type_of kinds d (take c.at (letters u)) → AreMarked kinds d u → IsWith place middle u w → AreMarked kinds d w
+  put_keeps type m h = put_marked kinds valid d c.at t c.loop loop is_loop u w (put_there h) m type
+
+  pub put_is_change : t ≡ type_of kinds d (take c.at (letters u)) → c.insert ≡ true → IsWith place middle u w → Changes kinds d c (letters u) (letters w)
+  put_is_change type insert h = put_changes kinds valid d c.at t c.loop loop is_loop u w (put_there h) c refl refl insert type
+
+  pub take_keeps : t ≡ type_of kinds d (take c.at (letters w)) → AreMarked kinds d w → IsWith place middle u w → AreMarked kinds d u
+  take_keeps type m h = take_marked kinds valid d c.at t c.loop loop is_loop u w (put_there h) m type
+
+  pub take_is_change : t ≡ type_of kinds d (take c.at (letters w)) → c.insert ≡ false → IsWith place middle u w → Changes kinds d c (letters w) (letters u)
+  take_is_change type delete h = take_changes kinds valid d c.at t c.loop loop is_loop u w (put_there h) c refl refl delete type
+
+  pub not_there_not_allowed : t ≡ type_of kinds d (take c.at (letters w)) → AreMarked kinds d w → c.insert ≡ false → take (length middle) (drop place w) ≢ middle → ¬ (IsAllowed kinds d c (letters w))
+  not_there_not_allowed type m delete none =
+      not_followed kinds d c t loop w m delete type is_loop (subst (λ k. take (length k) (drop c.at w) ≢ k) typed (subst (λ k. take (length middle) (drop k w) ≢ middle) at none))

@@ -1,7 +1,7 @@
 -- Lists in pieces: where a piece stands in the whole, and what the whole is where pieces change.
 use Rattle.std.proofs.Common.{◌≡◌, ℕ, zero, suc, ◌+◌, ◌-◌, ◌<◌, ◌≤◌, ◌⊎◌, inl, inr, List, [], ◌∷◌, ◌++◌, length, take, drop, slice_index_or, slice_set, refl, sym, ap, ap₂, ◌∙◌, subst, arith, add-one, append_assoc, length-append, length-drop}
 use Rattle.std.specs.List.{insert, remove}
-use Rattle.std.proofs.lemmas.List.{append-nil, take_all, take-append-drop, get_or_default, get_or_append_left, get_or-append-add, take-append-le, drop-append-le, take-set, length-set}
+use Rattle.std.proofs.lemmas.List.{append-nil, take_all, take-append-drop, length-take-le, get_or_default, get_or_append_left, get_or-append-add, take-append-le, drop-append-le, take-set, length-set}
 use Rattle.std.proofs.lemmas.List.Edits.{length-remove}
 use Rattle.std.proofs.Math.Seq.{drop-append-add}
 use Rattle.log_checker.specs.Marks.{TypedLetter}
@@ -220,3 +220,17 @@ module _ (ps rs : List (List TypedLetter)) (i : ℕ) (p n q : List TypedLetter) 
       let few : i < length rs = omega (arith, ap length out, length-remove ps (i + 1) h, h) in
       let size : length q ≡ length (piece_at ps i) + length (piece_at ps (i + 1)) = ap length sum_is ∙ length-append (piece_at ps i) (piece_at ps (i + 1)) in
       omega (arith, within, size, ap length (piece_set rs i q few))
+
+-- where a place stands in its piece
+pub place_is : (ps : List (List TypedLetter)) (i b place : ℕ) → Covers ps i b place → length (joined (take i ps)) + (place - b) ≡ place
+place_is ps i b place covers = omega (arith, covers.begins.counted, covers.behind)
+
+-- letters taken out, as the code does it: what is behind them is added to what is before them
+pub taken_out : (offset : ℕ) (middle w s k r e : List TypedLetter) → offset ≤ length w → s ≡ drop offset w → s ≡ middle ++ drop (length middle) s → e ≡ k ++ r → k ≡ take offset w → r ≡ drop (length middle) s → IsWith offset middle e w
+taken_out offset middle w s k r e within from begins sum front back = record {
+  before = take offset w;
+  behind = drop (length middle) s;
+  at = sym (length-take-le offset w within);
+  without = sum ∙ ap₂ (λ x y. x ++ y) front back;
+  put = sym (take-append-drop offset w) ∙ ap (λ m. take offset w ++ m) (sym from ∙ begins);
+}
