@@ -45,5 +45,5 @@ walk_goes_on ps i p w rest h is so_far whole =
     let piece = read_piece ps i p h is in
     let front = joined (take i ps) in
     let split : walk_of ps ≡ letters front ++ (letters p ++ walk_of (drop (suc i) ps)) =
-        ap letters (joined_at ps i h ∙ ap (λ m. front ++ (m ++ joined (drop (suc i) ps))) (sym piece)) ∙ letters_append front (p ++ joined (drop (suc i) ps)) ∙ ap (λ m. letters front ++ m) (letters_append p (joined (drop (suc i) ps))) in
+    ap letters (joined_at ps i h ∙ ap (λ m. front ++ (m ++ joined (drop (suc i) ps))) (sym piece)) ∙ letters_append front (p ++ joined (drop (suc i) ps)) ∙ ap (λ m. letters front ++ m) (letters_append p (joined (drop (suc i) ps))) in
     append_cancel_left (letters front) rest (letters p ++ walk_of (drop (suc i) ps)) (sym so_far ∙ sym whole ∙ split)

@@ -132,7 +132,7 @@ impl Trail {
             → Begins self.new.pieces.items self.new.near.index self.new.near.before) }
         ensures changed { IfOk result (λ done. IsTrue done
             → Changes t.now from change (walk_of self.old.pieces.items)
-                (walk_of self.new.pieces.items)) }
+            (walk_of self.new.pieces.items)) }
         ensures refused { IfOk result (λ done. done ≡ false
             → ¬ (IsAllowed t.now from change (walk_of self.old.pieces.items))) }
     {
@@ -156,13 +156,7 @@ impl Trail {
 }
 
 /// The type at a place of a walk from the type `from`. The place lies in the piece.
-fn type_at(
-    t: &Tessellation,
-    from: DartType,
-    pieces: &[Piece],
-    near: Start,
-    place: u64,
-) -> DartType
+fn type_at(t: &Tessellation, from: DartType, pieces: &[Piece], near: Start, place: u64) -> DartType
     requires valid { IsValid t.now }
     requires is_type { IsType t.now from }
     requires marked { AreMarked t.now from (joined pieces.now) }

@@ -38,7 +38,7 @@ pub(crate) fn put(
     requires within { offset ≤ length (piece_at pieces.old.items index) }
     ensures put { OnOk result
         (IsWith (length (joined (take index pieces.old.items)) + offset) middle.now
-            (joined pieces.old.items) (joined pieces.new.items)) }
+        (joined pieces.old.items) (joined pieces.new.items)) }
     ensures front { OnOk result (KeepsFront pieces.old.items pieces.new.items index) }
 {
     let piece = &mut pieces[index];
@@ -60,12 +60,12 @@ pub(crate) fn take_out(
     requires within { offset ≤ length (piece_at pieces.old.items index) }
     ensures out { IfOk result (λ done. IsTrue done
         → IsWith (length (joined (take index pieces.old.items)) + offset) middle.now
-            (joined pieces.new.items) (joined pieces.old.items)) }
+        (joined pieces.new.items) (joined pieces.old.items)) }
     ensures front { IfOk result (λ done. KeepsFront pieces.old.items pieces.new.items index) }
     ensures not_there { IfOk result (λ done. done ≡ false
         → take (length middle.now)
-            (drop (length (joined (take index pieces.old.items)) + offset)
-                (joined pieces.old.items)) ≢ middle.now) }
+        (drop (length (joined (take index pieces.old.items)) + offset)
+        (joined pieces.old.items)) ≢ middle.now) }
 {
     gather(pieces, index, offset, middle.len())?;
     let piece = &mut pieces[index];
