@@ -24,12 +24,32 @@ static SQUARES: [Row; 14] = [
     ("XLLLL", &[(false, 0, 4)], "X", Some(LogFault::Change(1))),
     ("XLLLL", &[(false, 1, 4)], "X", None),
     ("-", &[(true, 1, 1)], "XX", Some(LogFault::Change(1))),
-    ("-", &[(true, 0, 2), (true, 2, 3), (false, 1, 3)], "LL", Some(LogFault::Change(3))),
-    ("-", &[(true, 0, 2), (true, 2, 3), (true, 1, 1)], "LXXRRL", None),
+    (
+        "-",
+        &[(true, 0, 2), (true, 2, 3), (false, 1, 3)],
+        "LL",
+        Some(LogFault::Change(3)),
+    ),
+    (
+        "-",
+        &[(true, 0, 2), (true, 2, 3), (true, 1, 1)],
+        "LXXRRL",
+        None,
+    ),
     ("X", &[(true, 0, 0)], "X", Some(LogFault::Change(1))),
     ("X", &[(true, 0, 6)], "X", Some(LogFault::Change(1))),
-    ("XX", &[(false, 0, 1), (false, 0, 1)], "-", Some(LogFault::Change(2))),
-    ("XX", &[(true, 18_446_744_073_709_551_615, 1)], "-", Some(LogFault::Change(1))),
+    (
+        "XX",
+        &[(false, 0, 1), (false, 0, 1)],
+        "-",
+        Some(LogFault::Change(2)),
+    ),
+    (
+        "XX",
+        &[(true, 18_446_744_073_709_551_615, 1)],
+        "-",
+        Some(LogFault::Change(1)),
+    ),
 ];
 
 static HEPTAGONS: [Row; 5] = [
@@ -37,7 +57,12 @@ static HEPTAGONS: [Row; 5] = [
     ("X", &[(true, 1, 4)], "XLLLLLLL", Some(LogFault::End)),
     ("X", &[(true, 0, 4)], "LLLLLLLX", None),
     ("LXLXLX", &[(false, 0, 5)], "-", None),
-    ("LXLX", &[(true, 2, 1), (true, 3, 4), (true, 1, 5)], "LLXLXLXXXLLLLLLLXLX", None),
+    (
+        "LXLX",
+        &[(true, 2, 1), (true, 3, 4), (true, 1, 5)],
+        "LLXLXLXXXLLLLLLLXLX",
+        None,
+    ),
 ];
 
 fn kind(
