@@ -1,12 +1,12 @@
 -- Loops put into a marked walk and taken out of it: the changes of the walk.
-use Rattle.std.proofs.Common.{◌≡◌, ◌≢◌, ℕ, suc, ◌+◌, ◌<◌, ◌≤◌, Bool, true, false, List, [], ◌∷◌, ◌++◌, length, take, drop, refl, sym, ap, ap₂, ◌∙◌, subst, arith, append_assoc, length-append}
-use Rattle.std.proofs.lemmas.List.{append-nil, take_at, drop_at, append_cancel_left}
+use Rattle.std.proofs.Common.{◌≡◌, ◌≢◌, ℕ, ◌<◌, ◌≤◌, true, false, List, [], ◌++◌, length, take, drop, refl, sym, ap, ap₂, ◌∙◌, subst, arith, length-append}
+use Rattle.std.proofs.lemmas.List.{append-nil, take_at, drop_at}
 use Rattle.tile_model.specs.declared.Letter.{Letter}
 use Rattle.tile_model.specs.Tessellations.{TileKind}
 use Rattle.tile_model.specs.Validity.{IsValid}
 use Rattle.tile_model.specs.Walks.{type_of}
 use Rattle.tile_model.specs.Relation.{IsLoop, Change, Changes, inserts, deletes}
-use Rattle.tile_model.proofs.Types.{loop_type, type_append}
+use Rattle.tile_model.proofs.Types.{loop_type}
 use Rattle.log_model.specs.Logs.{IsAllowed}
 use Rattle.log_model.proofs.Changes.{one_change}
 use Rattle.log_checker.specs.Marks.{TypedLetter, marked, letters, AreMarked}

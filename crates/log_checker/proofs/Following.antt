@@ -8,7 +8,7 @@ use Rattle.tile_model.specs.Relation.{Change, Changes, Lead}
 use Rattle.tile_model.proofs.Relations.{lead_append}
 use Rattle.log_model.specs.Logs.{IsAllowed, IsFirstRefused}
 use Rattle.log_checker.specs.Marks.{TypedLetter, letters}
-use Rattle.log_checker.specs.Trails.{joined, walk_of, piece_at}
+use Rattle.log_checker.specs.Trails.{joined, walk_of}
 use Rattle.log_checker.proofs.Pieces.{joined_push, joined_at, read_piece}
 use Rattle.log_checker.proofs.Marking.{letters_append}
 

@@ -1,12 +1,11 @@
 -- The type at a place, as the letter before it tells it.
-use Rattle.std.proofs.Common.{◌≡◌, ℕ, suc, ◌+◌, ◌-◌, ◌<◌, ◌≤◌, List, length, take, slice_index_or, sym, ap, ◌∙◌, subst, arith}
-use Rattle.tile_model.specs.declared.Letter.{Letter}
+use Rattle.std.proofs.Common.{◌≡◌, ℕ, suc, ◌+◌, ◌-◌, ◌<◌, List, length, take, slice_index_or, sym, ap, ◌∙◌, subst, arith}
 use Rattle.tile_model.specs.Tessellations.{TileKind, IsType}
 use Rattle.tile_model.specs.Validity.{IsValid}
 use Rattle.tile_model.specs.Walks.{step, type_of}
 use Rattle.tile_model.proofs.Types.{walk_type}
-use Rattle.log_checker.specs.Marks.{TypedLetter, marked, letters, AreMarked}
-use Rattle.log_checker.specs.Trails.{joined, walk_of, piece_at, Begins, Covers}
+use Rattle.log_checker.specs.Marks.{TypedLetter, marked, AreMarked}
+use Rattle.log_checker.specs.Trails.{joined, walk_of, piece_at, Covers}
 use Rattle.log_checker.proofs.Pieces.{read_piece, letter_in_piece, piece_within}
 use Rattle.log_checker.proofs.Marking.{length_letters, type_told, type_behind}
 

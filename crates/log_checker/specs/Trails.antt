@@ -1,5 +1,5 @@
 -- Lists that are kept in pieces, and what is put into them and taken out.
-use Rattle.std.specs.Prelude.{◌≡◌, ℕ, zero, suc, ◌+◌, ◌<◌, ◌≤◌, List, [], ◌∷◌, ◌++◌, length, take, slice_index_or}
+use Rattle.std.specs.Prelude.{◌≡◌, ℕ, ◌+◌, ◌<◌, ◌≤◌, List, [], ◌∷◌, ◌++◌, length, take, slice_index_or}
 use Rattle.tile_model.specs.declared.Letter.{Letter}
 use Rattle.log_checker.specs.Marks.{TypedLetter, letters}
 

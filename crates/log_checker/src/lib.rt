@@ -8,6 +8,8 @@ mod loops;
 mod marks;
 mod piece;
 mod seeking;
+#[cfg(test)]
+mod tests;
 mod trail;
 
 pub use checking::{LogFault, verify};

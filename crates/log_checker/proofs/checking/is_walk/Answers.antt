@@ -1,4 +1,4 @@
-use Rattle.std.proofs.Common.{◌+◌, ◌∙◌, ◌++◌, suc, drop, ap, sym}
+use Rattle.std.proofs.Common.{◌∙◌, ◌++◌, suc, drop, ap, sym}
 use Rattle.log_checker.specs.Marks.{letters}
 use Rattle.log_checker.specs.Trails.{walk_of}
 use Rattle.log_checker.proofs.Following.{walk_more, walk_goes_on}

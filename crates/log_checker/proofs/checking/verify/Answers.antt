@@ -1,4 +1,4 @@
-use Rattle.std.proofs.Common.{◌≡◌, ◌+◌, ℕ, subst}
+use Rattle.std.proofs.Common.{◌≡◌, ◌+◌, subst}
 use Rattle.log_model.specs.Logs.{IsFirstRefused}
 use Rattle.log_checker.specs.Trails.{walk_of}
 use Rattle.log_checker.proofs.Following.{lead_more, refused_here}

@@ -1,5 +1,5 @@
 -- A change that is made is one of the walk, and one that is not made is not allowed.
-use Rattle.std.proofs.Common.{◌<◌, ◌∙◌, ℕ, List, length, take, subst, sym, ap, ap₂, arith}
+use Rattle.std.proofs.Common.{◌∙◌, List, length, take, subst, sym, ap, ap₂, arith}
 use Rattle.std.specs.Prelude.{IfSome, IfNone}
 use Rattle.tile_model.specs.declared.Letter.{Letter}
 use Rattle.tile_model.specs.Walks.{type_of}

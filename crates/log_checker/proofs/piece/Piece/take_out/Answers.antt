@@ -1,4 +1,4 @@
-use Rattle.std.proofs.Common.{◌≡◌, ℕ, Bool, true, ◌++◌, ◌∙◌, length, take, drop, sym, ap, rules}
+use Rattle.std.proofs.Common.{◌≡◌, ℕ, true, ◌++◌, ◌∙◌, length, take, drop, sym, ap, rules}
 use Rattle.std.proofs.lemmas.List.{take-append-drop}
 use Rattle.std.proofs.lemmas.Slice.Eq.{starts_is}
 use Rattle.tile_model.specs.declared.Letter.{Letter}
