@@ -42,6 +42,9 @@ STATUSES = {
     13: "the program could not write its output",
     14: "the rules could not be stored",
     15: "the input has over 268,435,456 bytes",
+    16: "the two walks are not related",
+    17: "the log is bad, or does not lead from the one walk to the other",
+    18: "a walk goes too far from the first tile",
 }
 
 

@@ -17,6 +17,16 @@ four_words f (v ∷ w ∷ x ∷ []) a b c d least below ea eb ec ed = absurd (om
 four_words f (v ∷ w ∷ x ∷ y ∷ []) a b c d least below ea eb ec ed = cc
 four_words f (v ∷ w ∷ x ∷ y ∷ z ∷ ws) a b c d least below ea eb ec ed = absurd (omega arith)
 
+pub six_words : {S : Type 0} (f : S → List ℕ) (ws : List S) (a b c d e g : S) → 6 ≤ length ws → length ws < 7 → a ≡ get_or ws 0 a → b ≡ get_or ws 1 b → c ≡ get_or ws 2 c → d ≡ get_or ws 3 d → e ≡ get_or ws 4 e → g ≡ get_or ws 5 g → map f ws ≡ f a ∷ f b ∷ f c ∷ f d ∷ f e ∷ f g ∷ []
+six_words f [] a b c d e g least below ea eb ec ed ee eg = absurd (omega arith)
+six_words f (v ∷ []) a b c d e g least below ea eb ec ed ee eg = absurd (omega arith)
+six_words f (v ∷ w ∷ []) a b c d e g least below ea eb ec ed ee eg = absurd (omega arith)
+six_words f (v ∷ w ∷ x ∷ []) a b c d e g least below ea eb ec ed ee eg = absurd (omega arith)
+six_words f (v ∷ w ∷ x ∷ y ∷ []) a b c d e g least below ea eb ec ed ee eg = absurd (omega arith)
+six_words f (v ∷ w ∷ x ∷ y ∷ z ∷ []) a b c d e g least below ea eb ec ed ee eg = absurd (omega arith)
+six_words f (v ∷ w ∷ x ∷ y ∷ z ∷ t ∷ []) a b c d e g least below ea eb ec ed ee eg = cc
+six_words f (v ∷ w ∷ x ∷ y ∷ z ∷ t ∷ s ∷ ws) a b c d e g least below ea eb ec ed ee eg = absurd (omega arith)
+
 -- the first two or three words, and the others
 pub two_front : {S : Type 0} (f : S → List ℕ) (ws : List S) (a b : S) → 2 ≤ length ws → a ≡ get_or ws 0 a → b ≡ get_or ws 1 b → map f ws ≡ f a ∷ f b ∷ map f (take (length ws - 2) (drop 2 ws))
 two_front f [] a b least ea eb = absurd (omega arith)

@@ -4,7 +4,7 @@ use Rattle.std.specs.Str.Parse.{digits_value}
 use Rattle.tile_model.specs.WalkTexts.{walk_text}
 use Rattle.tile_model.proofs.WalkTexts.{one_walk}
 use Rattle.call_words.specs.Options.{value_of}
-use Rattle.call_words.specs.Tasks.{Task, TellType, CheckRules, RunSession, LearnRules, MergeRules, Ask, IsCells, AreCellsOf, IsOriginOf, RulesFrom, FromFile, FromTeacher, AskInRange, AreCells, IsInRange}
+use Rattle.call_words.specs.Tasks.{Task, TellType, CheckRules, RunSession, LearnRules, MergeRules, WriteLog, VerifyLog, Ask, IsCells, AreCellsOf, IsOriginOf, RulesFrom, FromFile, FromTeacher, AskInRange, AreCells, IsInRange}
 
 -- the letter at a place of the first word
 abbrev pub letter : ℕ → List (List ℕ) → ℕ
@@ -84,6 +84,44 @@ one_task words (RunSession tess k rules) (MergeRules tess' rules' out') one two 
 one_task words (MergeRules tess rules out) (RunSession tess' k' rules') one two = let other : 109 ≡ 114 = ap (letter 0) (sym one ∙ two.spelled) in absurd (omega (arith, other))
 one_task words (LearnRules tess cells out) (MergeRules tess' rules' out') one two = let other : 108 ≡ 109 = ap (letter 0) (sym one.spelled ∙ two) in absurd (omega (arith, other))
 one_task words (MergeRules tess rules out) (LearnRules tess' cells' out') one two = let other : 109 ≡ 108 = ap (letter 0) (sym one ∙ two.spelled) in absurd (omega (arith, other))
+one_task words (WriteLog tess rules k u w) (WriteLog tess' rules' k' u' w') one two =
+    let same_tess : tess ≡ tess' = cc (one.spelled, two.spelled) in
+    let same_rules : rules ≡ rules' = cc (one.spelled, two.spelled) in
+    let digits : one.digits ≡ two.digits = cc (one.spelled, two.spelled) in
+    let text : walk_text u ≡ walk_text u' = cc (one.spelled, two.spelled) in
+    let other : walk_text w ≡ walk_text w' = cc (one.spelled, two.spelled) in
+    let same_kind : k ≡ k' = sym one.number.value ∙ ap (λ (l : List ℕ). digits_value 10 l) digits ∙ two.number.value in
+    cc (same_tess, same_rules, same_kind, one_walk u u' text, one_walk w w' other)
+one_task words (VerifyLog tess k u w log) (VerifyLog tess' k' u' w' log') one two =
+    let same_tess : tess ≡ tess' = cc (one.spelled, two.spelled) in
+    let digits : one.digits ≡ two.digits = cc (one.spelled, two.spelled) in
+    let text : walk_text u ≡ walk_text u' = cc (one.spelled, two.spelled) in
+    let other : walk_text w ≡ walk_text w' = cc (one.spelled, two.spelled) in
+    let same_log : log ≡ log' = cc (one.spelled, two.spelled) in
+    let same_kind : k ≡ k' = sym one.number.value ∙ ap (λ (l : List ℕ). digits_value 10 l) digits ∙ two.number.value in
+    cc (same_tess, same_kind, one_walk u u' text, one_walk w w' other, same_log)
+one_task words (TellType tess k walk) (WriteLog tess' rules' k' u' w') one two = let other : 107 ≡ 108 = ap (letter 0) (sym one.spelled ∙ two.spelled) in absurd (omega (arith, other))
+one_task words (WriteLog tess rules k u w) (TellType tess' k' walk') one two = let other : 108 ≡ 107 = ap (letter 0) (sym one.spelled ∙ two.spelled) in absurd (omega (arith, other))
+one_task words (TellType tess k walk) (VerifyLog tess' k' u' w' log') one two = let other : 107 ≡ 118 = ap (letter 0) (sym one.spelled ∙ two.spelled) in absurd (omega (arith, other))
+one_task words (VerifyLog tess k u w log) (TellType tess' k' walk') one two = let other : 118 ≡ 107 = ap (letter 0) (sym one.spelled ∙ two.spelled) in absurd (omega (arith, other))
+one_task words (CheckRules tess rules) (WriteLog tess' rules' k' u' w') one two = let other : 99 ≡ 108 = ap (letter 0) (sym one ∙ two.spelled) in absurd (omega (arith, other))
+one_task words (WriteLog tess rules k u w) (CheckRules tess' rules') one two = let other : 108 ≡ 99 = ap (letter 0) (sym one.spelled ∙ two) in absurd (omega (arith, other))
+one_task words (CheckRules tess rules) (VerifyLog tess' k' u' w' log') one two = let other : 99 ≡ 118 = ap (letter 0) (sym one ∙ two.spelled) in absurd (omega (arith, other))
+one_task words (VerifyLog tess k u w log) (CheckRules tess' rules') one two = let other : 118 ≡ 99 = ap (letter 0) (sym one.spelled ∙ two) in absurd (omega (arith, other))
+one_task words (RunSession tess k rules) (WriteLog tess' rules' k' u' w') one two = let other : 114 ≡ 108 = ap (letter 0) (sym one.spelled ∙ two.spelled) in absurd (omega (arith, other))
+one_task words (WriteLog tess rules k u w) (RunSession tess' k' rules') one two = let other : 108 ≡ 114 = ap (letter 0) (sym one.spelled ∙ two.spelled) in absurd (omega (arith, other))
+one_task words (RunSession tess k rules) (VerifyLog tess' k' u' w' log') one two = let other : 114 ≡ 118 = ap (letter 0) (sym one.spelled ∙ two.spelled) in absurd (omega (arith, other))
+one_task words (VerifyLog tess k u w log) (RunSession tess' k' rules') one two = let other : 118 ≡ 114 = ap (letter 0) (sym one.spelled ∙ two.spelled) in absurd (omega (arith, other))
+one_task words (LearnRules tess cells out) (WriteLog tess' rules' k' u' w') one two = let other : 101 ≡ 111 = ap (letter 1) (sym one.spelled ∙ two.spelled) in absurd (omega (arith, other))
+one_task words (WriteLog tess rules k u w) (LearnRules tess' cells' out') one two = let other : 111 ≡ 101 = ap (letter 1) (sym one.spelled ∙ two.spelled) in absurd (omega (arith, other))
+one_task words (LearnRules tess cells out) (VerifyLog tess' k' u' w' log') one two = let other : 108 ≡ 118 = ap (letter 0) (sym one.spelled ∙ two.spelled) in absurd (omega (arith, other))
+one_task words (VerifyLog tess k u w log) (LearnRules tess' cells' out') one two = let other : 118 ≡ 108 = ap (letter 0) (sym one.spelled ∙ two.spelled) in absurd (omega (arith, other))
+one_task words (MergeRules tess rules out) (WriteLog tess' rules' k' u' w') one two = let other : 109 ≡ 108 = ap (letter 0) (sym one ∙ two.spelled) in absurd (omega (arith, other))
+one_task words (WriteLog tess rules k u w) (MergeRules tess' rules' out') one two = let other : 108 ≡ 109 = ap (letter 0) (sym one.spelled ∙ two) in absurd (omega (arith, other))
+one_task words (MergeRules tess rules out) (VerifyLog tess' k' u' w' log') one two = let other : 109 ≡ 118 = ap (letter 0) (sym one ∙ two.spelled) in absurd (omega (arith, other))
+one_task words (VerifyLog tess k u w log) (MergeRules tess' rules' out') one two = let other : 118 ≡ 109 = ap (letter 0) (sym one.spelled ∙ two) in absurd (omega (arith, other))
+one_task words (WriteLog tess rules k u w) (VerifyLog tess' k' u' w' log') one two = let other : 108 ≡ 118 = ap (letter 0) (sym one.spelled ∙ two.spelled) in absurd (omega (arith, other))
+one_task words (VerifyLog tess k u w log) (WriteLog tess' rules' k' u' w') one two = let other : 118 ≡ 108 = ap (letter 0) (sym one.spelled ∙ two.spelled) in absurd (omega (arith, other))
 
 -- the cells that words name are in range
 cells_in_range : (value : Option (List ℕ)) (n : ℕ) → AreCellsOf value n → AreCells n
@@ -102,3 +140,5 @@ in_range words (CheckRules tess rules) ask = tt
 in_range words (RunSession tess k rules) ask = origin_in_range _ _ rules ask.origin
 in_range words (LearnRules tess cells out) ask = cells_in_range _ cells ask.most
 in_range words (MergeRules tess rules out) ask = tt
+in_range words (WriteLog tess rules k u w) ask = tt
+in_range words (VerifyLog tess k u w log) ask = tt

@@ -1,10 +1,12 @@
 -- What a list of words that begins with a form's word may ask for.
-use Rattle.std.proofs.Common.{◌≡◌, ℕ, List, [], ◌∷◌, codes, arith, sym, ◌∙◌, ap, subst}
+use Rattle.std.proofs.Common.{◌≡◌, ℕ, List, [], ◌∷◌, Result, Ok, Err, codes, arith, sym, ◌∙◌, ap, subst}
+use Rattle.std.specs.Prelude.{IsErrAnd}
 use Rattle.tile_model.specs.declared.Letter.{Letter}
 use Rattle.tile_model.specs.WalkTexts.{walk_text}
 use Rattle.short_numbers.specs.Numbers.{IsNumber}
+use Rattle.call_words.specs.declared.forms.WordsFault.{WordsFault}
 use Rattle.call_words.proofs.OneTask.{letter}
-use Rattle.call_words.specs.Tasks.{Task, TellType, CheckRules, RunSession, LearnRules, MergeRules, IsKindForm, Ask}
+use Rattle.call_words.specs.Tasks.{Task, TellType, CheckRules, RunSession, LearnRules, MergeRules, WriteLog, VerifyLog, IsKindForm, Ask}
 
 -- a kind and a walk that two words write
 pub record IsStart (digits letters : List ℕ) (n : ℕ) (walk : List Letter) : Type 0 where
@@ -38,3 +40,10 @@ kind_task words tess digits letters is (CheckRules t r) ask = absurd (cc (is, as
 kind_task words tess digits letters is (RunSession t n r) ask = absurd (cc (is, ask.spelled))
 kind_task words tess digits letters is (LearnRules t m r) ask = let other : 107 ≡ 108 = ap (letter 0) (sym is ∙ ask.spelled) in absurd (omega (arith, other))
 kind_task words tess digits letters is (MergeRules t r o) ask = let other : 107 ≡ 109 = ap (letter 0) (sym is ∙ ask) in absurd (omega (arith, other))
+kind_task words tess digits letters is (WriteLog t r n u w) ask = let other : 107 ≡ 108 = ap (letter 0) (sym is ∙ ask.spelled) in absurd (omega (arith, other))
+kind_task words tess digits letters is (VerifyLog t n u w l) ask = let other : 107 ≡ 118 = ap (letter 0) (sym is ∙ ask.spelled) in absurd (omega (arith, other))
+
+-- what `?` hands on is the fault that came
+pub same_fault : {A : Type 0} (result : Result A WordsFault) (fault other : WordsFault) → IsErrAnd result (λ y. y ≡ fault) → result ≡ Err other → fault ≡ other
+same_fault (Ok x) fault other gives is = absurd gives
+same_fault (Err y) fault other gives is = let same : y ≡ other = cc is in sym gives ∙ same

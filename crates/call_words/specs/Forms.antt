@@ -5,9 +5,9 @@ use Rattle.call_words.specs.declared.options.Named.TheVariants.{Value, Nothing}
 use Rattle.call_words.specs.declared.options.Origin.{Origin}
 use Rattle.call_words.specs.declared.options.Origin.TheVariants.{File, Teacher}
 use Rattle.call_words.specs.declared.forms.Form.{Form}
-use Rattle.call_words.specs.declared.forms.Form.TheVariants.{Kind, Check, Run, Learn, Merge}
+use Rattle.call_words.specs.declared.forms.Form.TheVariants.{Kind, Check, Run, Learn, Merge, Log, Verify}
 use Rattle.call_words.specs.Tasks.{Task, TellType, CheckRules, RunSession, LearnRules, MergeRules}
-use Rattle.call_words.specs.Tasks.{RulesFrom, FromFile, FromTeacher}
+use Rattle.call_words.specs.Tasks.{WriteLog, VerifyLog, RulesFrom, FromFile, FromTeacher}
 
 -- the value of an option, where it is there
 abbrev pub name_of : Named → Option (List ℕ)
@@ -24,3 +24,5 @@ task_of (Check tess rules) = CheckRules tess.now rules.now
 task_of (Run tess k rules) = RunSession tess.now k (rules_from rules)
 task_of (Learn tess cells out) = LearnRules tess.now cells (name_of out)
 task_of (Merge tess rules out) = MergeRules tess.now rules.now out.now
+task_of (Log tess rules k u w) = WriteLog tess.now rules.now k u w
+task_of (Verify tess k u w log) = VerifyLog tess.now k u w log.now

@@ -13,7 +13,8 @@ pub data RulesFrom : Type 0 where
   FromTeacher : ℕ → RulesFrom
 
 -- to tell the type that a walk leads to from the start of kind k, to check rules, to answer the
--- commands of the input over rules, in the tree of kind k, to learn rules, or to merge them
+-- commands of the input over rules, in the tree of kind k, to learn rules, to merge them, to write a
+-- log that leads from walk u to walk w, both from the start of kind k, or to verify one
 pub data Task : Type 0 where
   TellType : (tess : List ℕ) (k : ℕ) (walk : List Letter) → Task
   CheckRules : (tess rules : List ℕ) → Task
@@ -22,6 +23,9 @@ pub data Task : Type 0 where
   LearnRules : (tess : List ℕ) (cells : ℕ) (out : Option (List ℕ)) → Task
   -- and to store what is left of them in a file
   MergeRules : (tess rules out : List ℕ) → Task
+  WriteLog : (tess rules : List ℕ) (k : ℕ) (u w : List Letter) → Task
+  -- the log is that of a file
+  VerifyLog : (tess : List ℕ) (k : ℕ) (u w : List Letter) (log : List ℕ) → Task
 
 -- `kind TESS K LETTERS`
 pub record IsKindForm (words : List (List ℕ)) (tess : List ℕ) (k : ℕ) (walk : List Letter) :
@@ -82,6 +86,23 @@ pub record IsLearnForm
 abbrev pub IsMergeForm : List (List ℕ) → List ℕ → List ℕ → List ℕ → Type 0
 IsMergeForm words tess rules out = words ≡ codes "merge" ∷ tess ∷ rules ∷ out ∷ []
 
+-- `log TESS RULES K U W`
+pub record IsLogForm
+    (words : List (List ℕ)) (tess rules : List ℕ) (k : ℕ) (u w : List Letter) : Type 0 where
+  pub digits : List ℕ
+  pub number : IsNumber digits k
+  pub spelled :
+      words ≡ codes "log" ∷ tess ∷ rules ∷ digits ∷ walk_text u ∷ walk_text w ∷ []
+
+-- `verify TESS K U W LOG`
+pub record IsVerifyForm
+    (words : List (List ℕ)) (tess : List ℕ) (k : ℕ) (u w : List Letter) (log : List ℕ) :
+    Type 0 where
+  pub digits : List ℕ
+  pub number : IsNumber digits k
+  pub spelled :
+      words ≡ codes "verify" ∷ tess ∷ digits ∷ walk_text u ∷ walk_text w ∷ log ∷ []
+
 -- the words ask for this task
 abbrev pub Ask : List (List ℕ) → Task → Type 0
 Ask words (TellType tess k walk) = IsKindForm words tess k walk
@@ -90,6 +111,8 @@ Ask words (CheckRules tess rules) = words ≡ codes "check" ∷ tess ∷ rules �
 Ask words (RunSession tess k rules) = IsRunForm words tess k rules
 Ask words (LearnRules tess cells out) = IsLearnForm words tess cells out
 Ask words (MergeRules tess rules out) = IsMergeForm words tess rules out
+Ask words (WriteLog tess rules k u w) = IsLogForm words tess rules k u w
+Ask words (VerifyLog tess k u w log) = IsVerifyForm words tess k u w log
 
 -- the words are in no form
 abbrev pub HaveNoForm : List (List ℕ) → Type 0
@@ -109,6 +132,17 @@ AreNotOfLearn words =
 abbrev pub AreNotOfMerge : List (List ℕ) → Type 0
 AreNotOfMerge words = (tess rules out : List ℕ) → IsMergeForm words tess rules out → ⊥
 
+-- the words are not of the form `log`
+abbrev pub AreNotOfLog : List (List ℕ) → Type 0
+AreNotOfLog words =
+    (tess rules : List ℕ) (k : ℕ) (u w : List Letter) → IsLogForm words tess rules k u w → ⊥
+
+-- the words are not of the form `verify`
+abbrev pub AreNotOfVerify : List (List ℕ) → Type 0
+AreNotOfVerify words =
+    (tess : List ℕ) (k : ℕ) (u w : List Letter) (log : List ℕ)
+    → IsVerifyForm words tess k u w log → ⊥
+
 -- so many cells may be asked for
 abbrev pub AreCells : ℕ → Type 0
 AreCells cells = (1 ≤ cells) × (cells ≤ most_cells)
@@ -124,6 +158,8 @@ IsInRange (CheckRules tess rules) = Unit {0}
 IsInRange (RunSession tess k rules) = AskInRange rules
 IsInRange (LearnRules tess cells out) = AreCells cells
 IsInRange (MergeRules tess rules out) = Unit {0}
+IsInRange (WriteLog tess rules k u w) = Unit {0}
+IsInRange (VerifyLog tess k u w log) = Unit {0}
 
 -- the task asks a teacher for the rules of the tessellation that this file holds, with so many
 -- cells
@@ -134,6 +170,8 @@ TeachesFor (RunSession tess k (FromFile rules)) file cells = ⊥
 TeachesFor (RunSession tess k (FromTeacher most)) file cells = (tess ≡ file) × (most ≡ cells)
 TeachesFor (LearnRules tess most out) file cells = (tess ≡ file) × (most ≡ cells)
 TeachesFor (MergeRules tess rules out) file cells = ⊥
+TeachesFor (WriteLog tess rules k u w) file cells = ⊥
+TeachesFor (VerifyLog tess k u w log) file cells = ⊥
 
 -- the words ask for no task that asks a teacher
 abbrev pub AskNoTeacher : List (List ℕ) → Type 0
@@ -147,6 +185,8 @@ stored_in (CheckRules tess rules) = None
 stored_in (RunSession tess k rules) = None
 stored_in (LearnRules tess cells out) = out
 stored_in (MergeRules tess rules out) = Some out
+stored_in (WriteLog tess rules k u w) = None
+stored_in (VerifyLog tess k u w log) = None
 
 -- the words name this file to store rules in
 pub record IsOut (words : List (List ℕ)) (file : List ℕ) : Type 0 where

@@ -6,6 +6,7 @@ ghost use Rattle.tile_model.specs.WalkTexts.{walk_text};
 ghost use Rattle.short_numbers.specs.Numbers.{IsNumber};
 ghost use Rattle.call_words.specs.Tasks.{Task, Ask, HaveNoForm};
 ghost use Rattle.call_words.specs.Tasks.{AreNotOfRun, AreNotOfLearn, AreNotOfMerge};
+ghost use Rattle.call_words.specs.Tasks.{AreNotOfLog, AreNotOfVerify};
 ghost use Rattle.call_words.specs.Forms.{task_of};
 
 use crate::options::{Named, Origin, are_options, read_cells, read_origin, value_in};
@@ -49,6 +50,23 @@ pub enum Form<'a> {
         /// The file in which the merged rules are stored.
         out: &'a str,
     },
+    /// `log TESS RULES K U W`
+    Log {
+        tess: &'a str,
+        rules: &'a str,
+        kind: u32,
+        u: Walk,
+        w: Walk,
+    },
+    /// `verify TESS K U W LOG`
+    Verify {
+        tess: &'a str,
+        kind: u32,
+        u: Walk,
+        w: Walk,
+        /// The file that holds the log.
+        log: &'a str,
+    },
 }
 
 /// Why words are not read.
@@ -62,7 +80,20 @@ pub enum WordsFault {
     Memory,
 }
 
-/// The kind and the walk that two words of the form `kind` write.
+/// The walk that a word writes.
+fn read_letters(alloc: Global, letters: &str) -> Result<Walk, WordsFault>
+    ensures ok { IfOk result (λ walk. walk_text walk ≡ letters.now) }
+    ensures usage { IsErrOf result WordsFault.Usage
+        → (walk : List Letter) → walk_text walk ≡ letters.now → ⊥ }
+{
+    match read_walk(alloc, letters.as_bytes()) {
+        Ok(walk) => Ok(walk),
+        Err(WalkFault::Text) => Err(WordsFault::Usage),
+        Err(WalkFault::Memory) => Err(WordsFault::Memory),
+    }
+}
+
+/// The kind and the walk that two words write.
 fn read_start(alloc: Global, k: &str, letters: &str) -> Result<(u32, Walk), WordsFault>
     ensures ok { IfOk result (λ start. IsNumber k.now start.0 × (walk_text start.1 ≡ letters.now)) }
     ensures usage { IsErrOf result WordsFault.Usage → (n : ℕ) (walk : List Letter)
@@ -110,7 +141,14 @@ pub fn read_words<'a>(alloc: Global, words: &'a [String]) -> Result<Form<'a>, Wo
                 Some(form) => Ok(form),
                 None => match read_merge(words) {
                     Some(form) => Ok(form),
-                    None => Err(WordsFault::Usage),
+                    None => match read_log(alloc, words) {
+                        Ok(form) => Ok(form),
+                        Err(WordsFault::Memory) => Err(WordsFault::Memory),
+                        Err(WordsFault::Usage) => match read_verify(alloc, words) {
+                            Ok(form) => Ok(form),
+                            Err(fault) => Err(fault),
+                        },
+                    },
                 },
             },
         },
@@ -177,5 +215,49 @@ fn read_merge<'a>(words: &'a [String]) -> Option<Form<'a>>
         tess: tess.as_str(),
         rules: rules.as_str(),
         out: out.as_str(),
+    })
+}
+
+/// Reads words of the form `log`.
+fn read_log<'a>(alloc: Global, words: &'a [String]) -> Result<Form<'a>, WordsFault>
+    ensures ok { IfOk result (λ form. Ask (map string_bytes words.now) (task_of form)) }
+    ensures usage { IsErrOf result WordsFault.Usage → AreNotOfLog (map string_bytes words.now) }
+{
+    let [form, tess, rules, k, u, w] = words else {
+        return Err(WordsFault::Usage);
+    };
+    if form.as_str() != "log" {
+        return Err(WordsFault::Usage);
+    }
+    let (kind, u) = read_start(alloc, k.as_str(), u.as_str())?;
+    let w = read_letters(alloc, w.as_str())?;
+    Ok(Form::Log {
+        tess: tess.as_str(),
+        rules: rules.as_str(),
+        kind,
+        u,
+        w,
+    })
+}
+
+/// Reads words of the form `verify`.
+fn read_verify<'a>(alloc: Global, words: &'a [String]) -> Result<Form<'a>, WordsFault>
+    ensures ok { IfOk result (λ form. Ask (map string_bytes words.now) (task_of form)) }
+    ensures usage { IsErrOf result WordsFault.Usage → AreNotOfVerify (map string_bytes words.now) }
+{
+    let [form, tess, k, u, w, log] = words else {
+        return Err(WordsFault::Usage);
+    };
+    if form.as_str() != "verify" {
+        return Err(WordsFault::Usage);
+    }
+    let (kind, u) = read_start(alloc, k.as_str(), u.as_str())?;
+    let w = read_letters(alloc, w.as_str())?;
+    Ok(Form::Verify {
+        tess: tess.as_str(),
+        kind,
+        u,
+        w,
+        log: log.as_str(),
     })
 }

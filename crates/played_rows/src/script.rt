@@ -111,6 +111,13 @@ fn set(alloc: Global, stage: &mut Stage, word: &str, rest: &str) -> Result<bool,
         "show" => next.shown.push(String::from_str(alloc, rest)?)?,
         "find" => next.found.push(String::from_str(alloc, rest)?)?,
         "keep" => next.stored.push(String::from_str(alloc, rest)?)?,
+        "writes" => next.written.push(String::from_str(alloc, rest)?)?,
+        "letters" => {
+            let (count, text) = halves(rest, " ");
+            for _ in 0..number(count) {
+                next.letters.push_str(text)?;
+            }
+        }
         _ => return set_file(alloc, stage, word, rest),
     }
     Ok(true)

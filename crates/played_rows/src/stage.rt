@@ -1,6 +1,6 @@
 // What the next call finds, and calls over it.
 use crate::call::{call, sink, source};
-use crate::told::{tell, tell_output};
+use crate::told::{halves, tell, tell_output};
 use std::alloc::{AllocError, Global};
 use way_io::{FillSource, MemFiles, MemSink};
 
@@ -26,6 +26,10 @@ pub(crate) struct Next {
     pub shown: Vec<String>,
     pub found: Vec<String>,
     pub stored: Vec<String>,
+    /// The names under which further calls find what is written, which is not told then.
+    pub written: Vec<String>,
+    /// The letters that stand in place of an @ among the words.
+    pub letters: String,
 }
 
 /// The files of every call, and what the next one finds beside them.
@@ -64,6 +68,8 @@ impl Next {
             shown: Vec::new(alloc),
             found: Vec::new(alloc),
             stored: Vec::new(alloc),
+            written: Vec::new(alloc),
+            letters: String::new(alloc),
         }
     }
 }
@@ -133,6 +139,8 @@ impl Stage {
         let mut files = self.files()?;
         let out = self.sink(&self.next.failing_writes)?;
         let reads = &self.next.failing_reads;
+        let words = self.words(words)?;
+        let words = words.as_str();
         let first = self.outcome(words, &mut files, out, self.first_step(), reads)?;
         self.tell_outcome(&first, said)?;
         for step in &self.next.steps {
@@ -146,11 +154,29 @@ impl Stage {
             }
         }
         self.tell_files(&files, said)?;
-        self.store(&files)
+        self.store(&files)?;
+        for name in &self.next.written {
+            self.kept.push(Held {
+                name: name.clone()?,
+                bytes: first.written.clone()?,
+            })?;
+        }
+        Ok(())
+    }
+
+    // The words, with the letters that were set in place of an @.
+    fn words(&self, words: &str) -> Result<String, AllocError> {
+        let (front, behind) = halves(words, "@");
+        let mut whole = String::from_str(self.alloc, front)?;
+        whole.push_str(&self.next.letters)?;
+        whole.push_str(behind)?;
+        Ok(whole)
     }
 
     fn tell_outcome(&self, came: &Outcome, said: &mut Vec<u8>) -> Result<(), AllocError> {
-        tell_output(self.alloc, said, &came.written)?;
+        if self.next.written.is_empty() {
+            tell_output(self.alloc, said, &came.written)?;
+        }
         let code = came.code;
         tell(said, format!(in self.alloc; "exit {code}\n")?.as_str())
     }

@@ -43,5 +43,7 @@ pub(crate) fn seated(alloc: Global, work: Result<Work, Stop>) -> Result<Box<Seat
     match work? {
         Work::Serve { rules, kind } => Ok(Seat::new(alloc, rules, kind)?),
         Work::Say(line) => Err(Stop::Say(line)),
+        // No words that open a session come to a text.
+        Work::Write(_) => Err(Stop::Memory),
     }
 }

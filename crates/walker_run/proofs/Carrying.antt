@@ -11,11 +11,11 @@ use Rattle.walker_run.specs.declared.line.Role.TheVariants.{Tess, Rules}
 use Rattle.walker_run.specs.declared.stop.Stop.{Stop}
 use Rattle.walker_run.specs.declared.stop.Stop.TheVariants.{Say, Memory}
 use Rattle.walker_run.specs.declared.tasks.Work.{Work}
-use Rattle.walker_run.specs.Due.{Contents, Row, FetchesFor, MakesFor}
+use Rattle.walker_run.specs.Due.{Contents, Row, FetchesFor, WritesFor, MakesFor}
 use Rattle.walker_run.specs.Held.{Loaded, Refused, Lesson, IsTess, IsMade}
 use Rattle.walker_run.proofs.LineKinds.{kind_of, made_kind}
 use Rattle.walker_run.specs.Outcome.{HasGivenUpOn, AsksOf}
-use Rattle.walker_run.specs.Effects.{FilesSeen, TeacherSeen, OnlyFetches, IsPlain, IsRefusedBy, Says, Opens, Lacks, end_of, line_of, lesson_of, IsNoKind, ServesFor, FitsTask, fits_row, fits_unread, fits_session, fits_nothing, IsSession, IsCarriedOut}
+use Rattle.walker_run.specs.Effects.{FilesSeen, TeacherSeen, OnlyFetches, IsPlain, IsRefusedBy, Says, Opens, Prints, Lacks, end_of, line_of, lesson_of, IsNoKind, ServesFor, FitsTask, fits_row, fits_unread, fits_session, fits_text, fits_nothing, IsSession, IsToLog, IsCarriedOut}
 
 module _ (tells : Bool) (before after : FilesSeen) (asked answered : TeacherSeen) (task : Task) where
   -- a line to which the files led
@@ -36,6 +36,7 @@ module _ (tells : Bool) (before after : FilesSeen) (asked answered : TeacherSeen
     closed = λ n is. let same : line ≡ Closed n = cc is in absurd (subst IsPlain same (f.plain line refl));
     gave_up = λ n is. let same : line ≡ GaveUp n = cc is in absurd (subst IsPlain same (f.plain line refl));
     ready = λ kinds a k is. absurd (cc is);
+    logs = λ text is. absurd (cc is);
   }
 
   -- the same of a line that is equal
@@ -57,6 +58,7 @@ module _ (tells : Bool) (before after : FilesSeen) (asked answered : TeacherSeen
     closed = λ n is. absurd (cc is);
     gave_up = λ n is. absurd (cc is);
     ready = λ kinds a k is. absurd (cc is);
+    logs = λ text is. absurd (cc is);
   }
 
   pub lacked : (result : Result Work Stop) → IsErrAnd result (λ y. y ≡ Memory) → OnlyFetches tells before after None → IsCarriedOut tells before after asked answered task (end_of result)
@@ -103,6 +105,28 @@ module _ (tells : Bool) (before after : FilesSeen) (asked answered : TeacherSeen
           subst (λ (x : ℕ). x < length ks) three (subst (λ (x : List TileKind). k < length x) one lt),
           subst (λ (x : TreeAutomaton). IsAccepted ks x) two (subst (λ (x : List TileKind). IsAccepted x a) one accepted),
         );
+    logs = λ text is. absurd (cc is);
+  }
+
+  -- a text is written
+  pub prints : (text : List ℕ) → OnlyFetches tells before after None
+      → (IsTrue tells → WritesFor before.contents task text)
+      → IsToLog task
+      → IsCarriedOut tells before after asked answered task (Prints text)
+  prints text f writes logs = record {
+    lesson = None;
+    due = λ told. fits_text text (writes told);
+    fetches = λ role is. absurd (cc is);
+    unstored = λ is. absurd (cc is);
+    short = λ is. absurd (cc is);
+    stores = λ none. f.stores;
+    others = λ told file other. f.same told file;
+    kept = λ told. inl (f.same told);
+    stored = λ told file kinds a named makes is. absurd (cc is);
+    closed = λ n is. absurd (cc is);
+    gave_up = λ n is. absurd (cc is);
+    ready = λ kinds a k is. absurd (cc is);
+    logs = λ other is. logs;
   }
 
   given_up_with : (kinds : List TileKind) (cells n : ℕ) → n ≡ cells → HasGivenUpOn kinds cells asked.give_ups answered.give_ups answered.last_give_up → HasGivenUpOn kinds n asked.give_ups answered.give_ups answered.last_give_up
@@ -137,6 +161,7 @@ module _ (tells : Bool) (before after : FilesSeen) (asked answered : TeacherSeen
             let known = refused.gave_up n same in
             record { kinds = kinds; asks = asks_with kinds cells n known.0 asks; given_up = given_up_with kinds cells n known.0 known.1 };
         ready = λ ks a k is. absurd (cc is);
+        logs = λ text is. absurd (cc is);
       }
 
   -- a teacher that stopped

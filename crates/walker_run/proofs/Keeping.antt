@@ -5,13 +5,13 @@ use Rattle.tree_model.specs.Automata.{TreeAutomaton}
 use Rattle.rules_file.specs.Spelling.{rules_text}
 use Rattle.way_io.specs.Counts.{Rose}
 use Rattle.way_io.specs.Contents.{KeepsAll}
-use Rattle.call_words.specs.Tasks.{Task, TellType, CheckRules, RunSession, LearnRules, MergeRules, stored_in}
+use Rattle.call_words.specs.Tasks.{Task, TellType, CheckRules, RunSession, LearnRules, MergeRules, WriteLog, VerifyLog, stored_in}
 use Rattle.walker_run.specs.declared.line.Line.{Line}
 use Rattle.walker_run.specs.declared.line.Line.TheVariants.{Accepted, FileFault, StoreFault, Closed, GaveUp, InputTooLong}
 use Rattle.walker_run.specs.Lines.{MayStore, status_of}
 use Rattle.walker_run.specs.Held.{Loaded, Refused, Lesson, IsMade}
 use Rattle.walker_run.specs.Due.{Contents, Row, StoresFor, StoresAs, MakesFor, check_accepted, merge_accepted}
-use Rattle.walker_run.specs.Effects.{FilesSeen, TeacherSeen, OnlyFetches, KeepsRules, End, Says, Opens, Lacks, FitsTask, fits_row, fits_unstored, fits_nothing, MayStoreAt, IsCarriedOut}
+use Rattle.walker_run.specs.Effects.{FilesSeen, TeacherSeen, OnlyFetches, KeepsRules, End, Says, Opens, Prints, Lacks, FitsTask, fits_row, fits_unstored, fits_nothing, MayStoreAt, IsCarriedOut}
 use Rattle.walker_run.specs.Below.{LawsBelow}
 use Rattle.walker_run.proofs.Unique.{one_made, one_makes}
 
@@ -34,6 +34,8 @@ made_row contents lesson (CheckRules tess rules) kinds a makes = absurd makes
 made_row contents lesson (RunSession tess k rules) kinds a makes = absurd makes
 made_row contents lesson (LearnRules tess cells out) kinds a makes = check_accepted kinds a makes.loaded makes.made
 made_row contents lesson (MergeRules tess rules out) kinds a makes = merge_accepted kinds a makes
+made_row contents lesson (WriteLog tess rules k u w) kinds a makes = absurd makes
+made_row contents lesson (VerifyLog tess k u w log) kinds a makes = absurd makes
 
 module _ (tells : Bool) (before between after : FilesSeen) (asked answered : TeacherSeen) (task : Task) (lesson : Lesson) (kinds : List TileKind) (a : TreeAutomaton) (f : OnlyFetches tells before between None) (makes : IsTrue tells → MakesFor before.contents lesson task kinds a) where
   abbrev Keeps : End → Type 0
@@ -48,6 +50,7 @@ module _ (tells : Bool) (before between after : FilesSeen) (asked answered : Tea
     | inr is ↦ subst (λ (l : Line). FitsTask before.contents lesson task (Says l)) (sym is.1) (fits_unstored (stores_for told is.0.0 is.0.1))
   ]
   kept_due (Opens ks b n) k told = absurd (k.unopened ks b n refl)
+  kept_due (Prints text) k told = absurd (k.unprinted text refl)
   kept_due Lacks k told = fits_nothing
 
   kept_line : (line : Line) (end : End) → Keeps end → end ≡ Says line → IsKept line
@@ -62,6 +65,7 @@ module _ (tells : Bool) (before between after : FilesSeen) (asked answered : Tea
     | inr is ↦ subst (λ (l : Line). MayStore (status_of l)) (sym is.1) tt
   ]
   may_store (Opens ks b n) k = k.unopened ks b n refl
+  may_store (Prints text) k = k.unprinted text refl
   may_store Lacks k = tt
 
   kept_or_stored : (out : Option (List ℕ)) → stored_in task ≡ out → (end : End) → Keeps end → IsTrue tells → KeepsAll before.contents after.contents ⊎ (StoresFor before.contents lesson task × MayStoreAt end)
@@ -97,4 +101,5 @@ module _ (tells : Bool) (before between after : FilesSeen) (asked answered : Tea
     closed = λ n is. absurd (kept_line (Closed n) end k is);
     gave_up = λ n is. absurd (kept_line (GaveUp n) end k is);
     ready = λ ks b n is. absurd (k.unopened ks b n is);
+    logs = λ text is. absurd (k.unprinted text is);
   }

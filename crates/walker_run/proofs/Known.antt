@@ -7,15 +7,15 @@ use Rattle.tess_text.specs.Spelling.{IsSpelling}
 use Rattle.rules_file.specs.Spelling.{rules_text}
 use Rattle.way_io.specs.Counts.{Rose}
 use Rattle.way_io.specs.Contents.{KeepsAll}
-use Rattle.call_words.specs.Tasks.{Task, TellType, CheckRules, RunSession, LearnRules, MergeRules, Ask, HaveNoForm, AreNotOfRun, IsOut}
+use Rattle.call_words.specs.Tasks.{Task, TellType, CheckRules, RunSession, LearnRules, MergeRules, WriteLog, VerifyLog, Ask, HaveNoForm, AreNotOfRun, AreNotOfLog, IsOut}
 use Rattle.walker_run.specs.declared.line.Role.{Role}
 use Rattle.walker_run.specs.declared.line.Line.TheVariants.{Accepted, Usage, FileFault, Closed, GaveUp, StoreFault, InputTooLong}
 use Rattle.walker_run.specs.Runs.{Call, Run, call_of}
 use Rattle.tile_model.specs.Validity.{IsValid}
 use Rattle.walker_run.specs.Held.{Outcome, Loaded, Refused, Lesson, IsTess, tess_too_long, tess_line, tess_kinds, tess_loaded, Holds, tess_limit}
-use Rattle.walker_run.specs.Due.{Contents, no_form, by_task, Serves, StoresAs, Stores, MakesFor, IsToMake, MaySay, due, unread, unstored}
+use Rattle.walker_run.specs.Due.{Contents, no_form, by_task, Serves, StoresAs, Stores, MakesFor, IsToMake, WritesFor, LogsText, MaySay, due, unread, unstored}
 use Rattle.walker_run.specs.Promise.{IsClosedIn, IsGivenUpIn}
-use Rattle.walker_run.specs.Effects.{FilesSeen, End, Says, Opens, Lacks, ServesFor, FitsTask, fits_row, fits_unread, fits_unstored, fits_session, fits_nothing, MayStoreAt, IsSession, IsCarriedOut, IsDecided, formless, wordless, carried_out}
+use Rattle.walker_run.specs.Effects.{FilesSeen, End, Says, Opens, Prints, Lacks, ServesFor, FitsTask, fits_row, fits_unread, fits_unstored, fits_session, fits_text, fits_nothing, MayStoreAt, IsSession, IsToLog, IsCarriedOut, IsDecided, formless, wordless, carried_out}
 use Rattle.walker_run.specs.Below.{LawsBelow}
 use Rattle.walker_run.specs.Ending.{files_of, teacher_of}
 
@@ -23,6 +23,7 @@ use Rattle.walker_run.specs.Ending.{files_of, teacher_of}
 abbrev pub IsReached : Call → End → Type 0
 IsReached call (Says line) = MaySay call line
 IsReached call (Opens kinds a k) = Serves call kinds a k
+IsReached call (Prints text) = LogsText call text
 IsReached call Lacks = Unit {0}
 
 -- what is known of a run that came to this end, if the teacher answers this
@@ -41,6 +42,7 @@ pub record Known (run : Run) (lesson : Lesson) (end : End) : Type 0 where
   pub closed : (n : ℕ) → end ≡ Says (Closed n) → IsClosedIn run n
   pub gave_up : (n : ℕ) → end ≡ Says (GaveUp n) → IsGivenUpIn run n
   pub ready : (kinds : List TileKind) (a : TreeAutomaton) (k : ℕ) → end ≡ Opens kinds a k → (¬ AreNotOfRun run.words) × IsAccepted kinds a
+  pub logs : (text : List ℕ) → end ≡ Prints text → ¬ AreNotOfLog run.words
   pub formless : HaveNoForm run.words → (end ≡ Says Usage) ⊎ (end ≡ Lacks)
 
 -- where a tessellation is loaded its file holds a spelling of it
@@ -51,11 +53,11 @@ pub record IsHeld (contents : Contents) (tess : List ℕ) (kinds : List TileKind
   pub valid : IsValid kinds
 
 module _ (contents : Contents) (tess : List ℕ) where
-  abbrev IsSpelt : Outcome (List TileKind) → Type 0
+  abbrev pub IsSpelt : Outcome (List TileKind) → Type 0
   IsSpelt (Loaded kinds) = IsHeld contents tess kinds
   IsSpelt (Refused line) = Unit {0}
 
-  held : {o : Outcome (List TileKind)} → IsTess contents tess o → IsSpelt o
+  pub held : {o : Outcome (List TileKind)} → IsTess contents tess o → IsSpelt o
   held (tess_too_long long) = tt
   held (tess_line bytes n holds bad) = tt
   held (tess_kinds bytes fault holds bad) = tt
@@ -66,6 +68,8 @@ serves_for call (TellType tess n walk) kinds a k ask serves = absurd serves
 serves_for call (CheckRules tess rules) kinds a k ask serves = absurd serves
 serves_for call (LearnRules tess cells out) kinds a k ask serves = absurd serves
 serves_for call (MergeRules tess rules out) kinds a k ask serves = absurd serves
+serves_for call (WriteLog tess rules n u w) kinds a k ask serves = absurd serves
+serves_for call (VerifyLog tess n u w log) kinds a k ask serves = absurd serves
 serves_for call (RunSession tess n rules) kinds a k ask serves =
     let file = held call.contents tess serves.0 in
     subst (λ (m : ℕ). Serves call kinds a m) serves.3 (record {
@@ -80,11 +84,21 @@ serves_for call (RunSession tess n rules) kinds a k ask serves =
       is_kind = serves.2;
     })
 
+writes_for : (call : Call) (task : Task) (text : List ℕ) → Ask call.words task → WritesFor call.contents task text → LogsText call text
+writes_for call (TellType tess n walk) text ask writes = absurd writes
+writes_for call (CheckRules tess rules) text ask writes = absurd writes
+writes_for call (RunSession tess n rules) text ask writes = absurd writes
+writes_for call (LearnRules tess cells out) text ask writes = absurd writes
+writes_for call (MergeRules tess rules out) text ask writes = absurd writes
+writes_for call (WriteLog tess rules n u w) text ask writes = record { tess = tess; rules = rules; k = n; u = u; w = w; form = ask; logs = writes }
+writes_for call (VerifyLog tess n u w log) text ask writes = absurd writes
+
 pub reached_by : (call : Call) (task : Task) → Ask call.words task → {end : End} → FitsTask call.contents call.lesson task end → IsReached call end
 reached_by call task ask (fits_row line row) = due line (by_task task line ask row)
 reached_by call task ask (fits_unread role fetches) = unread role (record { task = task; ask = ask; reached = fetches })
 reached_by call task ask (fits_unstored stores) = unstored (record { task = task; ask = ask; reached = stores })
 reached_by call task ask (fits_session kinds a k serves) = serves_for call task kinds a k ask serves
+reached_by call task ask (fits_text text writes) = writes_for call task text ask writes
 reached_by call task ask fits_nothing = tt
 
 pub of_run : (words : List (List ℕ)) (task : Task) → Ask words task → IsSession task → ¬ AreNotOfRun words
@@ -93,6 +107,17 @@ of_run words (CheckRules tess rules) ask session = absurd session
 of_run words (RunSession tess k rules) ask session = λ none. none tess k rules ask
 of_run words (LearnRules tess cells out) ask session = absurd session
 of_run words (MergeRules tess rules out) ask session = absurd session
+of_run words (WriteLog tess rules k u w) ask session = absurd session
+of_run words (VerifyLog tess k u w log) ask session = absurd session
+
+of_log : (words : List (List ℕ)) (task : Task) → Ask words task → IsToLog task → ¬ AreNotOfLog words
+of_log words (TellType tess k walk) ask logs = absurd logs
+of_log words (CheckRules tess rules) ask logs = absurd logs
+of_log words (RunSession tess k rules) ask logs = absurd logs
+of_log words (LearnRules tess cells out) ask logs = absurd logs
+of_log words (MergeRules tess rules out) ask logs = absurd logs
+of_log words (WriteLog tess rules k u w) ask logs = λ none. none tess rules k u w ask
+of_log words (VerifyLog tess k u w log) ask logs = absurd logs
 
 -- rules are made for a task that is to make rules
 pub to_make : (contents : Contents) (lesson : Lesson) (task : Task) (kinds : List TileKind) (a : TreeAutomaton) → MakesFor contents lesson task kinds a → IsToMake task
@@ -101,6 +126,8 @@ to_make contents lesson (CheckRules tess rules) kinds a makes = absurd makes
 to_make contents lesson (RunSession tess k rules) kinds a makes = absurd makes
 to_make contents lesson (LearnRules tess cells out) kinds a makes = tt
 to_make contents lesson (MergeRules tess rules out) kinds a makes = tt
+to_make contents lesson (WriteLog tess rules k u w) kinds a makes = absurd makes
+to_make contents lesson (VerifyLog tess k u w log) kinds a makes = absurd makes
 
 -- words that ask for such a task are not of the form `run`
 pub not_of_run : LawsBelow → (words : List (List ℕ)) (task : Task) → Ask words task → IsToMake task → AreNotOfRun words
@@ -109,6 +136,12 @@ not_of_run below words (CheckRules tess rules) ask make = absurd make
 not_of_run below words (RunSession tess k rules) ask make = absurd make
 not_of_run below words (LearnRules tess cells out) ask make = λ tess' k rules form. absurd (cc (below.one_task words (LearnRules tess cells out) (RunSession tess' k rules) ask form))
 not_of_run below words (MergeRules tess rules out) ask make = λ tess' k rules' form. absurd (cc (below.one_task words (MergeRules tess rules out) (RunSession tess' k rules') ask form))
+not_of_run below words (WriteLog tess rules k u w) ask make = absurd make
+not_of_run below words (VerifyLog tess k u w log) ask make = absurd make
+
+-- and neither are words of the form `log`
+pub log_no_run : LawsBelow → (call : Call) {text : List ℕ} → LogsText call text → AreNotOfRun call.words
+log_no_run below call l = λ tess' k rules' form. absurd (cc (below.one_task call.words (WriteLog l.tess l.rules l.k l.u l.w) (RunSession tess' k rules') l.form form))
 
 pub stores_no_run : LawsBelow → (call : Call) → Stores call → AreNotOfRun call.words
 stores_no_run below call stores =
@@ -148,6 +181,7 @@ module _ (run : Run) where
       closed = λ n is. record { task = task; ask = ask; closed = c.closed n is };
       gave_up = λ n is. record { task = task; ask = ask; given_up = c.gave_up n is };
       ready = λ kinds a k is. let known = c.ready kinds a k is in (of_run run.words task ask known.0, known.2);
+      logs = λ text is. of_log run.words task ask (c.logs text is);
       formless = λ none. absurd (none task ask);
     }
 
@@ -166,6 +200,7 @@ module _ (run : Run) where
         closed = λ n is. absurd (cc is);
         gave_up = λ n is. absurd (cc is);
         ready = λ kinds a k is. absurd (cc is);
+        logs = λ text is. absurd (cc is);
         formless = λ none'. inl refl;
       },
     )
@@ -183,6 +218,7 @@ module _ (run : Run) where
         closed = λ n is. absurd (cc is);
         gave_up = λ n is. absurd (cc is);
         ready = λ kinds a k is. absurd (cc is);
+        logs = λ text is. absurd (cc is);
         formless = λ none'. inr refl;
       },
     )

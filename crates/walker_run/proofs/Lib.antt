@@ -5,6 +5,7 @@ pub mod Making
 pub mod Steps
 pub mod Carrying
 pub mod Keeping
+pub mod Logging
 pub mod Streams
 pub mod OverTree
 pub mod Known
@@ -12,3 +13,4 @@ pub mod Opened
 pub mod TableRows
 pub mod StreamRows
 pub mod Promised
+pub mod LaterRuns

@@ -2,16 +2,17 @@
 use Rattle.std.proofs.Common.{◌≡◌, ℕ, List, refl, sym, subst}
 use Rattle.tile_model.specs.declared.Letter.{Letter}
 use Rattle.tile_model.specs.Tessellations.{TileKind}
+use Rattle.tile_model.specs.Relation.{Change}
 use Rattle.tree_model.specs.Automata.{TreeAutomaton}
-use Rattle.call_words.specs.Tasks.{Task, TellType, CheckRules, RunSession, LearnRules, MergeRules, RulesFrom, FromFile, FromTeacher}
+use Rattle.call_words.specs.Tasks.{Task, TellType, CheckRules, RunSession, LearnRules, MergeRules, WriteLog, VerifyLog, RulesFrom, FromFile, FromTeacher}
 use Rattle.walker_run.specs.declared.status.Status.{Status}
 use Rattle.walker_run.specs.declared.status.Status.TheVariants.{Done, FileFault as FileFaultStatus, StoreFault as StoreFaultStatus, Memory, ReadFault, WriteFault, InputTooLong as InputTooLongStatus}
 use Rattle.walker_run.specs.declared.line.Line.{Line}
-use Rattle.walker_run.specs.declared.line.Line.TheVariants.{TypeTold, Accepted, Usage, FileFault, FileTooLong, TessLine, TessKinds, RulesSyntax, RulesShape, Broken, Spherical, Closed, GaveUp, StoreFault, InputTooLong}
+use Rattle.walker_run.specs.declared.line.Line.TheVariants.{TypeTold, Accepted, Usage, FileFault, FileTooLong, TessLine, TessKinds, RulesSyntax, RulesShape, Broken, Spherical, Closed, GaveUp, StoreFault, InputTooLong, Related, Apart, TooDeep, LogLine, LogChange, LogEnd}
 use Rattle.walker_run.specs.Lines.{status_of}
 use Rattle.walker_run.specs.Runs.{Call}
-use Rattle.walker_run.specs.Held.{Outcome, Loaded, Refused, Lesson, IsTess, tess_too_long, tess_line, tess_kinds, tess_loaded, IsRules, rules_too_long, rules_syntax, rules_shape, rules_broken, rules_loaded, MayRefuse, MayTeach, IsMade, made_spherical, made_rules, made_taught, RulesOf}
-use Rattle.walker_run.specs.Due.{Contents, TypeRow, type_no_tess, type_no_kind, type_told, CheckRow, check_no_tess, check_no_rules, check_accepted, SessionRow, session_no_tess, session_no_kind, session_no_rules, MergeRow, merge_no_tess, merge_no_rules, merge_accepted, Row, IsDue, no_form, by_task}
+use Rattle.walker_run.specs.Held.{Outcome, Loaded, Refused, Lesson, IsTess, tess_too_long, tess_line, tess_kinds, tess_loaded, IsRules, rules_too_long, rules_syntax, rules_shape, rules_broken, rules_loaded, IsLog, log_too_long, log_line, log_loaded, MayRefuse, MayTeach, IsMade, made_spherical, made_rules, made_taught, RulesOf}
+use Rattle.walker_run.specs.Due.{Contents, TypeRow, type_no_tess, type_no_kind, type_told, CheckRow, check_no_tess, check_no_rules, check_accepted, SessionRow, session_no_tess, session_no_kind, session_no_rules, MergeRow, merge_no_tess, merge_no_rules, merge_accepted, KindRow, kind_no_tess, kind_not_there, kind_there, LogRow, log_no_rules, log_too_deep, log_apart, IsVerdict, log_leads, log_refused, log_ends, VerifyRow, verify_no_log, verify_log, Row, IsDue, no_form, by_task}
 
 pub data LineKind : Type 0 where
   OfWork : LineKind
@@ -34,6 +35,12 @@ kind_of (Closed n) = OfRefusal
 kind_of (GaveUp n) = OfRefusal
 kind_of StoreFault = OfFault
 kind_of InputTooLong = OfFault
+kind_of Related = OfWork
+kind_of Apart = OfRefusal
+kind_of TooDeep = OfRefusal
+kind_of (LogLine n) = OfRefusal
+kind_of (LogChange n) = OfRefusal
+kind_of LogEnd = OfRefusal
 
 -- the statuses of each
 abbrev IsRefusedWith : Status → Type 0
@@ -67,6 +74,12 @@ by_kind (Closed n) = tt
 by_kind (GaveUp n) = tt
 by_kind StoreFault = tt
 by_kind InputTooLong = tt
+by_kind Related = refl
+by_kind Apart = tt
+by_kind TooDeep = tt
+by_kind (LogLine n) = tt
+by_kind (LogChange n) = tt
+by_kind LogEnd = tt
 
 -- no refusal has the status Done
 pub refusal_undone : (line : Line) → kind_of line ≡ OfRefusal → status_of line ≡ Done → ⊥
@@ -92,6 +105,12 @@ may_kind kinds cells (Closed n) may = refl
 may_kind kinds cells (GaveUp n) may = refl
 may_kind kinds cells StoreFault may = absurd may
 may_kind kinds cells InputTooLong may = absurd may
+may_kind kinds cells Related may = absurd may
+may_kind kinds cells Apart may = refl
+may_kind kinds cells TooDeep may = refl
+may_kind kinds cells (LogLine n) may = refl
+may_kind kinds cells (LogChange n) may = refl
+may_kind kinds cells LogEnd may = refl
 
 -- what is refused is refused by such a line
 abbrev IsRefusedOrNot : {A : Type 0} → Outcome A → Type 0
@@ -163,12 +182,48 @@ merge_kind contents tess rules (merge_no_tess line is) = answers line (tess_kind
 merge_kind contents tess rules (merge_no_rules kinds line is refused) = answers line (rules_kind contents kinds rules line refused)
 merge_kind contents tess rules (merge_accepted kinds a merges) = tt
 
+log_refuses : (contents : Contents) (file : List ℕ) {o : Outcome (List Change)} → IsLog contents file o → IsRefusedOrNot o
+log_refuses contents file (log_too_long long) = refl
+log_refuses contents file (log_line bytes n holds bad) = refl
+log_refuses contents file (log_loaded bytes log holds texts is) = tt
+
+log_kind : (contents : Contents) (file : List ℕ) (line : Line) → IsLog contents file (Refused line) → kind_of line ≡ OfRefusal
+log_kind contents file line is = log_refuses contents file is
+
+-- what holds of refusals and of what stands behind a kind holds of the rows of a form that names one
+of_kind : (P : LineKind → Type 0) → P OfRefusal → (contents : Contents) (tess : List ℕ) (k : ℕ) (Next : List TileKind → Line → Type 0) → ((kinds : List TileKind) (line : Line) → Next kinds line → P (kind_of line)) → {line : Line} → KindRow contents tess k Next line → P (kind_of line)
+of_kind P holds contents tess k Next next (kind_no_tess line is) = subst P (sym (tess_kind contents tess line is)) holds
+of_kind P holds contents tess k Next next (kind_not_there kinds is few) = holds
+of_kind P holds contents tess k Next next (kind_there kinds line is lt row) = next kinds line row
+
+logged_kind : (contents : Contents) (rules : List ℕ) (k : ℕ) (u w : List Letter) (kinds : List TileKind) {line : Line} → LogRow contents rules k u w kinds line → kind_of line ≡ OfRefusal
+logged_kind contents rules k u w kinds (log_no_rules line refused) = rules_kind contents kinds rules line refused
+logged_kind contents rules k u w kinds (log_too_deep a loaded far) = refl
+logged_kind contents rules k u w kinds (log_apart a loaded near apart) = refl
+
+-- where no log is written, words of the form `log` are refused
+pub unlogged_kind : (contents : Contents) (tess rules : List ℕ) (k : ℕ) (u w : List Letter) {line : Line} → KindRow contents tess k (LogRow contents rules k u w) line → kind_of line ≡ OfRefusal
+unlogged_kind contents tess rules k u w row =
+    of_kind (λ (x : LineKind). x ≡ OfRefusal) refl contents tess k (LogRow contents rules k u w) (λ kinds line next. logged_kind contents rules k u w kinds next) row
+
+verdict_kind : (kinds : List TileKind) (k : ℕ) (u w : List Letter) (log : List Change) {line : Line} → IsVerdict kinds k u w log line → IsAnswer (kind_of line)
+verdict_kind kinds k u w log (log_leads leads) = tt
+verdict_kind kinds k u w log (log_refused n refused) = tt
+verdict_kind kinds k u w log (log_ends elsewhere) = tt
+
+verified_kind : (contents : Contents) (k : ℕ) (u w : List Letter) (file : List ℕ) (kinds : List TileKind) {line : Line} → VerifyRow contents k u w file kinds line → IsAnswer (kind_of line)
+verified_kind contents k u w file kinds (verify_no_log line refused) = answers line (log_kind contents file line refused)
+verified_kind contents k u w file kinds (verify_log log line loaded verdict) = verdict_kind kinds k u w log verdict
+
 row_kind : (contents : Contents) (lesson : Lesson) (task : Task) (line : Line) → Row contents lesson task line → IsAnswer (kind_of line)
 row_kind contents lesson (TellType tess k walk) line row = type_kind contents tess k walk row
 row_kind contents lesson (CheckRules tess rules) line row = check_kind contents lesson tess (FromFile rules) row
 row_kind contents lesson (RunSession tess k rules) line row = answers line (session_kind contents lesson tess k rules row)
 row_kind contents lesson (LearnRules tess cells out) line row = check_kind contents lesson tess (FromTeacher cells) row
 row_kind contents lesson (MergeRules tess rules out) line row = merge_kind contents tess rules row
+row_kind contents lesson (WriteLog tess rules k u w) line row = answers line (unlogged_kind contents tess rules k u w row)
+row_kind contents lesson (VerifyLog tess k u w log) line row =
+    of_kind IsAnswer tt contents tess k (VerifyRow contents k u w log) (λ kinds l next. verified_kind contents k u w log kinds next) row
 
 -- no line that is due tells of a fault
 pub due_no_fault : (call : Call) {line : Line} → IsDue call line → kind_of line ≡ OfFault → ⊥

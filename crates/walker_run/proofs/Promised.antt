@@ -4,24 +4,25 @@ use Rattle.line_server.specs.Endings.{GivesInOrder, TakesMore}
 use Rattle.way_io.specs.Counts.{Rose}
 use Rattle.tree_laws.specs.Laws.{OfEachTree}
 use Rattle.line_server.specs.Laws.{OutputsAgree}
-use Rattle.walker_run.specs.declared.status.Status.TheVariants.{Usage, FileTooLong, TessRefused, RulesText, NotAccepted, Spherical, ReadFault, WriteFault}
+use Rattle.walker_run.specs.declared.status.Status.TheVariants.{Usage, FileTooLong, TessRefused, RulesText, NotAccepted, Spherical, Apart, LogRefused, TooDeep, ReadFault, WriteFault}
 use Rattle.walker_run.specs.declared.line.Line.{Line}
 use Rattle.walker_run.specs.Runs.{Run, call_of}
 use Rattle.walker_run.specs.Held.{Lesson}
 use Rattle.walker_run.specs.Due.{IsDue}
 use Rattle.walker_run.specs.Promise.{KeepsPromise}
-use Rattle.walker_run.specs.Effects.{End, Says, Opens, Lacks}
+use Rattle.walker_run.specs.Effects.{End, Says, Opens, Prints, Lacks}
 use Rattle.walker_run.specs.Ending.{IsWritten, Ends}
 use Rattle.walker_run.specs.Below.{LawsBelow}
 use Rattle.walker_run.proofs.Unique.{never_both}
 use Rattle.walker_run.proofs.Known.{Known, known}
-use Rattle.walker_run.proofs.TableRows.{merges_row, exactly, done_row, no_form_row, fault_row, store_row, closed_row, give_up_row, read_row, long_row, memory_row, write_row, served_row, kept_row, unmade_row, stored_row, made_so}
+use Rattle.walker_run.proofs.TableRows.{merges_row, logs_row, logged_row, exactly, done_row, no_form_row, fault_row, store_row, closed_row, give_up_row, read_row, long_row, memory_row, write_row, served_row, kept_row, unmade_row, stored_row, made_so}
 use Rattle.walker_run.proofs.StreamRows.{stream_row}
 
 -- the input is left alone where a line is due
 unread_row : LawsBelow → (run : Run) (lesson : Lesson) (end : End) → Known run lesson end → IsWritten run end → IsTrue run.files_tell → (line : Line) → IsDue (call_of run lesson) line → run.after.left ≡ run.before.left
 unread_row below run lesson (Says other) known written told line due = written.1
 unread_row below run lesson (Opens kinds a k) known written told line due = absurd (never_both below (call_of run lesson) line kinds a k due (known.reached told))
+unread_row below run lesson (Prints text) known written told line due = written.1
 unread_row below run lesson Lacks known written told line due = written.2
 
 pub promise : LawsBelow → OfEachTree OutputsAgree → (run : Run) → Ends run → (run.status ≡ ReadFault → Rose run.before.failed_reads run.after.failed_reads) → (run.status ≡ WriteFault → Rose run.before.failed_writes run.after.failed_writes)
@@ -42,6 +43,11 @@ promise below agree run ends unread unwritten taken left =
         rules_text = λ told. exactly run lesson below ends.end is ends.written told RulesText tt (λ never. never);
         not_accepted = λ told. exactly run lesson below ends.end is ends.written told NotAccepted tt (λ never. never);
         spherical = λ told. exactly run lesson below ends.end is ends.written told Spherical tt (λ never. never);
+        apart = λ told. exactly run lesson below ends.end is ends.written told Apart tt (λ never. never);
+        log_refused = λ told. exactly run lesson below ends.end is ends.written told LogRefused tt (λ never. never);
+        too_deep = λ told. exactly run lesson below ends.end is ends.written told TooDeep tt (λ never. never);
+        logs = logs_row run lesson below ends.end is ends.written;
+        logged = logged_row run lesson below ends.end is ends.written;
         merges = merges_row run lesson below ends.end is ends.written;
         made = made_so run lesson below ends.end is ends.written;
         closed = closed_row run lesson ends.end is ends.written;

@@ -19,13 +19,13 @@ use Rattle.walker_run.specs.Due.{Serves, MaySay, due, unread, unstored}
 use Rattle.walker_run.specs.Outcome.{WritesNothing}
 use Rattle.walker_run.specs.Serving.{OutputStands, LinesStand, RefusalStands, BeginningStands}
 use Rattle.walker_run.specs.Promise.{IsOutsideOfStream, BeginsLine, AnswersStream}
-use Rattle.walker_run.specs.Effects.{End, Says, Opens, Lacks}
+use Rattle.walker_run.specs.Effects.{End, Says, Opens, Prints, Lacks}
 use Rattle.walker_run.specs.Ending.{said, unsaid, unwritten, answered, cut_off, over_limit, broken_off, out_of_memory, IsWritten}
 use Rattle.walker_run.specs.Below.{LawsBelow}
 use Rattle.walker_run.proofs.OverTree.{stands_over_tree}
 use Rattle.walker_run.proofs.Streams.{nothing_begun}
 use Rattle.walker_run.proofs.Unique.{never_both, one_session}
-use Rattle.walker_run.proofs.Known.{Known, stores_no_run}
+use Rattle.walker_run.proofs.Known.{Known, stores_no_run, log_no_run}
 use Rattle.walker_run.proofs.TableRows.{SaidSo, Streams, between, silent, begun}
 
 module _ (run : Run) (lesson : Lesson) (answering : Answering) where
@@ -144,5 +144,7 @@ module _ (run : Run) (lesson : Lesson) (outputs_agree : OfEachTree OutputsAgree)
       said_unread kinds a k line known written.0 (said_instead kinds a k serves (known.reached told))
   stream_row (Opens kinds' a' k') known written told gives kinds a k serves =
       of_these kinds' a' k' (known.reached told) kinds a k serves (stream_answers kinds' a' k' gives (known.reached told) (known.ready kinds' a' k' refl).1 written)
+  stream_row (Prints text) known written told gives kinds a k serves =
+      absurd (log_no_run below (call_of run lesson) (known.reached told) serves.tess k serves.rules serves.form)
   stream_row Lacks known written told gives kinds a k serves =
       stream_unread kinds a k (between run lesson written.0 tt) (λ broke. absurd (cc (written.0, broke))) (λ want. written.1)

@@ -5,25 +5,25 @@ use Rattle.tree_model.specs.Automata.{TreeAutomaton}
 use Rattle.rules_file.specs.Spelling.{rules_text}
 use Rattle.line_server.specs.Answering.{Answering, over_walks}
 use Rattle.way_io.specs.Contents.{KeepsAll}
-use Rattle.call_words.specs.Tasks.{Task, TellType, CheckRules, RunSession, LearnRules, MergeRules, FromFile, FromTeacher, Ask, HaveNoForm, AreNotOfRun}
+use Rattle.call_words.specs.Tasks.{Task, TellType, CheckRules, RunSession, LearnRules, MergeRules, WriteLog, VerifyLog, FromFile, FromTeacher, Ask, HaveNoForm, AreNotOfRun, AreNotOfLog}
 use Rattle.walker_run.specs.declared.status.Status.{Status}
-use Rattle.walker_run.specs.declared.status.Status.TheVariants.{Done, Usage as UsageStatus, FileFault as FileFaultStatus, FileTooLong as FileTooLongStatus, TessRefused, RulesText, NotAccepted, Spherical as SphericalStatus, Closed as ClosedStatus, GaveUp as GaveUpStatus, StoreFault as StoreFaultStatus, Memory, ReadFault, WriteFault, InputTooLong as InputTooLongStatus}
+use Rattle.walker_run.specs.declared.status.Status.TheVariants.{Done, Usage as UsageStatus, FileFault as FileFaultStatus, FileTooLong as FileTooLongStatus, TessRefused, RulesText, NotAccepted, Spherical as SphericalStatus, Closed as ClosedStatus, GaveUp as GaveUpStatus, StoreFault as StoreFaultStatus, Memory, ReadFault, WriteFault, InputTooLong as InputTooLongStatus, Apart as ApartStatus, LogRefused as LogRefusedStatus, TooDeep as TooDeepStatus}
 use Rattle.walker_run.specs.declared.line.Role.{Role}
 use Rattle.walker_run.specs.declared.line.Line.{Line}
-use Rattle.walker_run.specs.declared.line.Line.TheVariants.{TypeTold, Accepted, Usage, FileFault, FileTooLong, TessLine, TessKinds, RulesSyntax, RulesShape, Broken, Spherical, Closed, GaveUp, StoreFault, InputTooLong}
+use Rattle.walker_run.specs.declared.line.Line.TheVariants.{TypeTold, Accepted, Usage, FileFault, FileTooLong, TessLine, TessKinds, RulesSyntax, RulesShape, Broken, Spherical, Closed, GaveUp, StoreFault, InputTooLong, Related, Apart, TooDeep, LogLine, LogChange, LogEnd}
 use Rattle.walker_run.specs.Runs.{Run, call_of}
 use Rattle.walker_run.specs.Lines.{IsOutside, MayStore, status_of, text_of}
 use Rattle.walker_run.specs.Held.{Lesson, Refused, IsRules, tess_loaded, rules_loaded}
-use Rattle.walker_run.specs.Due.{CheckRow, check_no_tess, check_no_rules, check_accepted, MergeRow, merge_no_tess, merge_no_rules, merge_accepted, Row, IsDue, by_task, ServesSome, MakesFor, IsToMake, StoresAs, MaySay, due, unread, unstored, Stores, Fetches}
-use Rattle.walker_run.specs.Outcome.{Writes, WritesNothing, ComesExactly, GivesAtOnce, MergesFiles}
-use Rattle.walker_run.specs.Promise.{BeginsLine, BeginsFault, IsServing, TellsFileFault, TellsStoreFault, TellsClosed, TellsGiveUp, TellsMade, StoresRules}
-use Rattle.walker_run.specs.Effects.{End, Says, Opens, Lacks, MayStoreAt}
-use Rattle.walker_run.specs.Ending.{SaysLine, said, unsaid, unwritten, EndsStream, answered, cut_off, over_limit, broken_off, out_of_memory, IsWritten}
+use Rattle.walker_run.specs.Due.{CheckRow, check_no_tess, check_no_rules, check_accepted, MergeRow, merge_no_tess, merge_no_rules, merge_accepted, Row, IsDue, by_task, ServesSome, Logs, LogsText, MakesFor, IsToMake, StoresAs, MaySay, due, unread, unstored, Stores, Fetches}
+use Rattle.walker_run.specs.Outcome.{Writes, WritesBeginning, WritesNothing, ComesExactly, GivesAtOnce, MergesFiles}
+use Rattle.walker_run.specs.Promise.{BeginsLine, BeginsFault, BeginsLog, TellsLog, IsServing, TellsFileFault, TellsStoreFault, TellsClosed, TellsGiveUp, TellsMade, StoresRules}
+use Rattle.walker_run.specs.Effects.{End, Says, Opens, Prints, Lacks, MayStoreAt}
+use Rattle.walker_run.specs.Ending.{SaysLine, said, unsaid, unwritten, PrintsText, printed, unprinted, EndsStream, answered, cut_off, over_limit, broken_off, out_of_memory, IsWritten}
 use Rattle.walker_run.specs.Below.{LawsBelow}
-use Rattle.walker_run.proofs.Unique.{one_line, never_both, row_of, one_loaded, not_refused_too, one_rules}
-use Rattle.walker_run.proofs.LineKinds.{kind_of, refusal_undone, session_kind, tess_kind, done_accepted, due_no_fault}
+use Rattle.walker_run.proofs.Unique.{one_line, never_both, never_a_log, row_of, one_loaded, not_refused_too, one_rules}
+use Rattle.walker_run.proofs.LineKinds.{kind_of, refusal_undone, session_kind, unlogged_kind, tess_kind, done_accepted, due_no_fault}
 use Rattle.walker_run.proofs.Keeping.{made_row}
-use Rattle.walker_run.proofs.Known.{Known, to_make, not_of_run}
+use Rattle.walker_run.proofs.Known.{Known, to_make, not_of_run, log_no_run}
 
 -- the statuses with which only a line that is due comes
 abbrev pub IsOfLine : Status → Type 0
@@ -63,6 +63,12 @@ spoken (Closed n) = tt
 spoken (GaveUp n) = tt
 spoken StoreFault = tt
 spoken InputTooLong = tt
+spoken Related = tt
+spoken Apart = tt
+spoken TooDeep = tt
+spoken (LogLine n) = tt
+spoken (LogChange n) = tt
+spoken LogEnd = tt
 
 -- the line of a status that has one line alone
 abbrev IsLineOf : Status → Line → Type 0
@@ -89,6 +95,12 @@ line_by_status (Closed n) = (n, refl)
 line_by_status (GaveUp n) = (n, refl)
 line_by_status StoreFault = refl
 line_by_status InputTooLong = refl
+line_by_status Related = tt
+line_by_status Apart = tt
+line_by_status TooDeep = tt
+line_by_status (LogLine n) = tt
+line_by_status (LogChange n) = tt
+line_by_status LogEnd = tt
 
 line_with : (line : Line) (status : Status) → status_of line ≡ status → IsLineOf status line
 line_with line status is = subst (λ (s : Status). IsLineOf s line) is (line_by_status line)
@@ -110,6 +122,9 @@ line_untold ReadFault line outside = line
 line_untold WriteFault line outside = line
 line_untold StoreFaultStatus line outside = line
 line_untold InputTooLongStatus line outside = line
+line_untold ApartStatus line outside = outside
+line_untold LogRefusedStatus line outside = outside
+line_untold TooDeepStatus line outside = outside
 
 module _ (run : Run) (lesson : Lesson) where
   -- the line of this run, and its stream
@@ -152,6 +167,31 @@ module _ (run : Run) (lesson : Lesson) where
   stream_status answering (broken_off is stands) = subst IsOfAnswers (sym is) tt
   stream_status answering (out_of_memory is stands) = subst IsOfAnswers (sym is) tt
 
+  -- a text that is written ends with Done or with a failed write
+  abbrev PrintedSo : List ℕ → Type 0
+  PrintedSo text = PrintsText run.sink_tells text run.before.taken run.after.taken run.status
+
+  abbrev IsOfText : Status → Type 0
+  IsOfText Done = Unit {0}
+  IsOfText WriteFault = Unit {0}
+  IsOfText _ = ⊥
+
+  text_status : (text : List ℕ) → PrintedSo text → IsOfText run.status
+  text_status text (printed is wrote) = subst IsOfText (sym is) tt
+  text_status text (unprinted is part) = subst IsOfText (sym is) tt
+
+  text_done : (text : List ℕ) → PrintedSo text → (status : Status) → run.status ≡ status → IsOfLine status → IsDone status
+  text_done text (printed is wrote) status same line = subst IsDone (sym is ∙ same) tt
+  text_done text (unprinted is part) status same line = absurd (subst IsOfLine (sym same ∙ is) line)
+
+  text_whole : (text : List ℕ) → PrintedSo text → run.status ≡ Done → Writes run text
+  text_whole text (printed is wrote) done = wrote
+  text_whole text (unprinted is part) done = absurd (cc (is, done))
+
+  text_part : (text : List ℕ) → PrintedSo text → run.status ≡ WriteFault → WritesBeginning run text
+  text_part text (printed is wrote) broke = absurd (cc (is, broke))
+  text_part text (unprinted is part) broke = part
+
   -- the run serves walkers
   pub serving : (kinds : List TileKind) (a : TreeAutomaton) (k : ℕ) → Known run lesson (Opens kinds a k) → IsServing run lesson
   serving kinds a k known = record { asked = (known.ready kinds a k refl).0; serves = λ told. record { kinds = kinds; automaton = a; kind = k; serves = known.reached told } }
@@ -168,6 +208,7 @@ module _ (run : Run) (lesson : Lesson) where
     | inr is ↦ absurd (cc is)
   ]
   no_form_row (Opens kinds a k) known written none = elim (known.formless none) [ inl is ↦ absurd (cc is) | inr is ↦ absurd (cc is) ]
+  no_form_row (Prints text) known written none = elim (known.formless none) [ inl is ↦ absurd (cc is) | inr is ↦ absurd (cc is) ]
   no_form_row Lacks known written none = inr (inl written.0)
 
   unread_line : (line : Line) → SaidSo line → run.status ≡ ReadFault → ⊥
@@ -203,6 +244,7 @@ module _ (run : Run) (lesson : Lesson) where
         written = subst (λ (l : Line). Writes run (text_of l)) found.1 told.1;
       }
   fault_row (Opens kinds a k) known written fault = absurd (subst IsOfAnswers fault (stream_status (over_walks kinds a k) written))
+  fault_row (Prints text) known written fault = absurd (subst IsOfText fault (text_status text written.0))
   fault_row Lacks known written fault = absurd (cc (written.0, fault))
 
   -- a file that could not be written
@@ -216,6 +258,7 @@ module _ (run : Run) (lesson : Lesson) where
         written = subst (λ (l : Line). Writes run (text_of l)) found told.1;
       }
   store_row (Opens kinds a k) known written fault = absurd (subst IsOfAnswers fault (stream_status (over_walks kinds a k) written))
+  store_row (Prints text) known written fault = absurd (subst IsOfText fault (text_status text written.0))
   store_row Lacks known written fault = absurd (cc (written.0, fault))
 
   -- the rows of a teacher that refused
@@ -225,6 +268,7 @@ module _ (run : Run) (lesson : Lesson) where
       let found = line_with line ClosedStatus told.0 in
       record { n = found.0; closed = known.closed found.0 (ap Says found.1); written = subst (λ (l : Line). Writes run (text_of l)) found.1 told.1 }
   closed_row (Opens kinds a k) known written closed = absurd (subst IsOfAnswers closed (stream_status (over_walks kinds a k) written))
+  closed_row (Prints text) known written closed = absurd (subst IsOfText closed (text_status text written.0))
   closed_row Lacks known written closed = absurd (cc (written.0, closed))
 
   pub give_up_row : (end : End) → Known run lesson end → IsWritten run end → run.status ≡ GaveUpStatus → TellsGiveUp run
@@ -233,12 +277,14 @@ module _ (run : Run) (lesson : Lesson) where
       let found = line_with line GaveUpStatus told.0 in
       record { cells = found.0; gave_up = known.gave_up found.0 (ap Says found.1); written = subst (λ (l : Line). Writes run (text_of l)) found.1 told.1 }
   give_up_row (Opens kinds a k) known written gave = absurd (subst IsOfAnswers gave (stream_status (over_walks kinds a k) written))
+  give_up_row (Prints text) known written gave = absurd (subst IsOfText gave (text_status text written.0))
   give_up_row Lacks known written gave = absurd (cc (written.0, gave))
 
   -- the statuses of the stream come only where walkers are served
   pub read_row : (end : End) → Known run lesson end → IsWritten run end → run.status ≡ ReadFault → IsServing run lesson
   read_row (Says line) known written read = absurd (unread_line line written.0 read)
   read_row (Opens kinds a k) known written read = serving kinds a k known
+  read_row (Prints text) known written read = absurd (subst IsOfText read (text_status text written.0))
   read_row Lacks known written read = absurd (cc (written.0, read))
 
   pub long_row : (end : End) → Known run lesson end → IsWritten run end → run.status ≡ InputTooLongStatus → IsServing run lesson
@@ -247,6 +293,7 @@ module _ (run : Run) (lesson : Lesson) where
       let found : line ≡ InputTooLong = line_with line InputTooLongStatus told.0 in
       absurd (known.short (ap Says found))
   long_row (Opens kinds a k) known written long = serving kinds a k known
+  long_row (Prints text) known written long = absurd (subst IsOfText long (text_status text written.0))
   long_row Lacks known written long = absurd (cc (written.0, long))
 
   -- want of memory
@@ -258,6 +305,7 @@ module _ (run : Run) (lesson : Lesson) where
   pub memory_row : (end : End) → Known run lesson end → IsWritten run end → run.status ≡ Memory → WritesNothing run ⊎ IsServing run lesson
   memory_row (Says line) known written want = inl (silent line written.0 want)
   memory_row (Opens kinds a k) known written want = inr (serving kinds a k known)
+  memory_row (Prints text) known written want = absurd (subst IsOfText want (text_status text written.0))
   memory_row Lacks known written want = inl written.1
 
   -- a write that failed
@@ -273,9 +321,10 @@ module _ (run : Run) (lesson : Lesson) where
     written = part;
   }
 
-  pub write_row : (end : End) → Known run lesson end → IsWritten run end → run.status ≡ WriteFault → ((line : Line) × BeginsLine run lesson line) ⊎ IsServing run lesson
+  pub write_row : (end : End) → Known run lesson end → IsWritten run end → run.status ≡ WriteFault → ((line : Line) × BeginsLine run lesson line) ⊎ (IsServing run lesson ⊎ BeginsLog run lesson)
   write_row (Says line) known written broke = inl (line, begun line known written.0 broke)
-  write_row (Opens kinds a k) known written broke = inr (serving kinds a k known)
+  write_row (Opens kinds a k) known written broke = inr (inl (serving kinds a k known))
+  write_row (Prints text) known written broke = inr (inr (record { text = text; asked = known.logs text refl; logs = known.reached; written = text_part text written.0 broke }))
   write_row Lacks known written broke = absurd (cc (written.0, broke))
 
   -- what the files hold
@@ -293,6 +342,7 @@ module _ (run : Run) (lesson : Lesson) where
       may_store : (e : End) → IsWritten run e → MayStoreAt e → MayStore run.status
       may_store (Says line) w may = line_may line w.0 may
       may_store (Opens kinds a k) w may = absurd may
+      may_store (Prints text) w may = absurd may
       may_store Lacks w may = subst MayStore (sym w.0) tt
 
   pub unmade_row : (end : End) → Known run lesson end → IsTrue run.files_tell → (Stores (call_of run lesson) → ⊥) → KeepsAll run.before.contents run.after.contents
@@ -328,6 +378,8 @@ module _ (run : Run) (lesson : Lesson) where
   making_line (RunSession tess k rules) make row done = absurd make
   making_line (LearnRules tess cells out) make row done = learnt_line tess cells out row done
   making_line (MergeRules tess rules out) make row done = merged_line tess rules out row done
+  making_line (WriteLog tess rules k u w) make row done = absurd make
+  making_line (VerifyLog tess k u w log) make row done = absurd make
 
   -- a line whose status is Done or tells of the outside, said or not
   abbrev EndsSo : Status → Type 0
@@ -338,8 +390,16 @@ module _ (run : Run) (lesson : Lesson) where
   so_said line ends (unsaid is kept) = inr (between is tt)
   so_said line ends (unwritten is part) = inr (between is tt)
 
+  -- a text that is written is that of a log, for related walks that pass no tile too far
+  logs_of : {text : List ℕ} → LogsText (call_of run lesson) text → Logs (call_of run lesson)
+  logs_of l = record { tess = l.tess; rules = l.rules; k = l.k; u = l.u; w = l.w; kinds = l.logs.kinds; form = l.form; ready = l.logs.ready; related = (l.logs.log, l.logs.leads) }
+
   -- what rests on the laws by which the table says one thing
   module _ (below : LawsBelow) where
+    -- where a log is written no other task is asked for
+    logs_alone : {text : List ℕ} → (l : LogsText (call_of run lesson) text) → (task : Task) → Ask run.words task → task ≡ WriteLog l.tess l.rules l.k l.u l.w
+    logs_alone l task ask = below.one_task run.words task (WriteLog l.tess l.rules l.k l.u l.w) ask l.form
+
     said_due : (line : Line) (status : Status) → IsOfLine status → run.status ≡ status_of line → Writes run (text_of line) → MaySay (call_of run lesson) line → ComesExactly run lesson status
     said_due line status of_line is wrote (due l is_due) = record {
       only = λ same. (l, is_due, sym is ∙ same, wrote);
@@ -362,13 +422,18 @@ module _ (run : Run) (lesson : Lesson) where
       only = λ same. absurd (other (stream_done (over_walks kinds a k) written status same of_line));
       always = λ line is_due is. absurd (never_both below (call_of run lesson) line kinds a k is_due (known.reached told));
     }
+    exactly (Prints text) known written told status of_line other = record {
+      only = λ same. absurd (other (text_done text written.0 status same of_line));
+      always = λ line is_due is. absurd (never_a_log below (call_of run lesson) line is_due (logs_of (known.reached told)));
+    }
     exactly Lacks known written told status of_line other = unanswered status of_line (between written.0 tt)
 
     -- the row of Done
-    pub done_row : (end : End) → Known run lesson end → IsWritten run end → IsTrue run.files_tell → ServesSome (call_of run lesson) ⊎ ComesExactly run lesson Done
-    done_row (Says line) known written told = inr (said_exactly line Done tt (known.reached told) written.0)
+    pub done_row : (end : End) → Known run lesson end → IsWritten run end → IsTrue run.files_tell → ServesSome (call_of run lesson) ⊎ (Logs (call_of run lesson) ⊎ ComesExactly run lesson Done)
+    done_row (Says line) known written told = inr (inr (said_exactly line Done tt (known.reached told) written.0))
     done_row (Opens kinds a k) known written told = inl ((serving kinds a k known).serves told)
-    done_row Lacks known written told = inr (unanswered Done tt (between written.0 tt))
+    done_row (Prints text) known written told = inr (inl (logs_of (known.reached told)))
+    done_row Lacks known written told = inr (inr (unanswered Done tt (between written.0 tt)))
 
     -- no line that may be said to words of the form `run` has the status Done
     unserved : (line : Line) → MaySay (call_of run lesson) line → status_of line ≡ Done → AreNotOfRun run.words
@@ -382,7 +447,43 @@ module _ (run : Run) (lesson : Lesson) where
         let is = said_with line Done tt written.0 done in
         absurd (form (unserved line (known.reached told) is.0))
     served_row (Opens kinds a k) known written told form done = (serving kinds a k known).serves told
+    served_row (Prints text) known written told form done = absurd (form (log_no_run below (call_of run lesson) (known.reached told)))
     served_row Lacks known written told form done = absurd (cc (written.0, done))
+
+    -- no line that may be said to words of the form `log` has the status Done
+    unlogged : (line : Line) → MaySay (call_of run lesson) line → status_of line ≡ Done → AreNotOfLog run.words
+    unlogged line (due l is_due) done = λ tess rules k u w form.
+        refusal_undone l (unlogged_kind run.before.contents tess rules k u w (row_of below (call_of run lesson) (WriteLog tess rules k u w) form is_due)) done
+    unlogged line (unread role fetches) done = absurd (cc done)
+    unlogged line (unstored stores) done = absurd (cc done)
+
+    -- the text of a log
+    pub logged_row : (end : End) → Known run lesson end → IsWritten run end → IsTrue run.files_tell → ¬ AreNotOfLog run.words → run.status ≡ Done → TellsLog run lesson
+    logged_row (Says line) known written told form done =
+        let is = said_with line Done tt written.0 done in
+        absurd (form (unlogged line (known.reached told) is.0))
+    logged_row (Opens kinds a k) known written told form done =
+        let serves = known.reached told in
+        absurd (form (λ tess rules n u w log. absurd (cc (below.one_task run.words (WriteLog tess rules n u w) (RunSession serves.tess k serves.rules) log serves.form))))
+    logged_row (Prints text) known written told form done = record { text = text; logs = known.reached told; written = text_whole text written.0 done }
+    logged_row Lacks known written told form done = absurd (cc (written.0, done))
+
+    logs_due : Logs (call_of run lesson) → (line : Line) → MaySay (call_of run lesson) line → EndsSo (status_of line)
+    logs_due l line (due x is_due) = absurd (never_a_log below (call_of run lesson) x is_due l)
+    logs_due l line (unread role fetches) = inr tt
+    logs_due l line (unstored stores) = inr tt
+
+    text_ends : (text : List ℕ) → PrintedSo text → EndsSo run.status
+    text_ends text (printed is wrote) = inl is
+    text_ends text (unprinted is part) = inr (between is tt)
+
+    pub logs_row : (end : End) → Known run lesson end → IsWritten run end → IsTrue run.files_tell → Logs (call_of run lesson) → (run.status ≡ Done) ⊎ IsOutside run.status
+    logs_row (Says line) known written told l = so_said line (logs_due l line (known.reached told)) written.0
+    logs_row (Opens kinds a k) known written told l =
+        let serves = known.reached told in
+        absurd (cc (below.one_task run.words (WriteLog l.tess l.rules l.k l.u l.w) (RunSession serves.tess k serves.rules) l.form serves.form))
+    logs_row (Prints text) known written told l = text_ends text written.0
+    logs_row Lacks known written told l = inr (between written.0 tt)
 
     stored_done : (task : Task) (out : List ℕ) (kinds : List TileKind) (a : TreeAutomaton) → Ask run.words task → StoresAs task out → MakesFor run.before.contents lesson task kinds a
         → (line : Line) → Known run lesson (Says line) → IsTrue run.files_tell → status_of line ≡ Done → MaySay (call_of run lesson) line → run.after.contents out ≡ Some (rules_text a)
@@ -409,6 +510,8 @@ module _ (run : Run) (lesson : Lesson) where
     }
     stored_row (Opens ks b k) known written told task out kinds a ask named makes =
         absurd ((known.ready ks b k refl).0 (not_of_run below run.words task ask (to_make run.before.contents lesson task kinds a makes)))
+    stored_row (Prints text) known written told task out kinds a ask named makes =
+        absurd (subst (λ (t : Task). MakesFor run.before.contents lesson t kinds a) (logs_alone (known.reached told) task ask) makes)
     stored_row Lacks known written told task out kinds a ask named makes = record { at_done = λ done. absurd (cc (written.0, done)); at_write_fault = λ broke. absurd (cc (written.0, broke)) }
 
     making : (task : Task) → Ask run.words task → IsToMake task → {line : Line} → MaySay (call_of run lesson) line → status_of line ≡ Done → IsMaking task line
@@ -428,6 +531,7 @@ module _ (run : Run) (lesson : Lesson) where
           stored = λ file named. (stored_row (Says line) known written told task file m.kinds m.automaton ask named m.makes).at_done done;
         }
     made_so (Opens kinds a k) known written told task ask make done = absurd ((known.ready kinds a k refl).0 (not_of_run below run.words task ask make))
+    made_so (Prints text) known written told task ask make done = absurd (subst IsToMake (logs_alone (known.reached told) task ask) make)
     made_so Lacks known written told task ask make done = absurd (cc (written.0, done))
 
     -- where two files can be merged no line is due but that of what is left
@@ -452,6 +556,7 @@ module _ (run : Run) (lesson : Lesson) where
       merges_so : (end : End) → Known run lesson end → IsWritten run end → IsTrue run.files_tell → EndsSo run.status
       merges_so (Says line) known written told = so_said line (merges_due line (known.reached told)) written.0
       merges_so (Opens kinds a k) known written told = absurd ((known.ready kinds a k refl).0 (not_of_run below run.words (MergeRules m.tess m.rules m.out) m.form tt))
+      merges_so (Prints text) known written told = absurd (subst IsToMake (logs_alone (known.reached told) (MergeRules m.tess m.rules m.out) m.form) tt)
       merges_so Lacks known written told = inr (between written.0 tt)
 
     pub merges_row : (end : End) → Known run lesson end → IsWritten run end → IsTrue run.files_tell → MergesFiles (call_of run lesson) → (run.status ≡ Done) ⊎ IsOutside run.status

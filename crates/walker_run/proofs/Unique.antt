@@ -1,8 +1,10 @@
 -- To a call at most one line is due, or it serves walkers over one automaton and in the tree of one kind, and never both.
-use Rattle.std.proofs.Common.{◌≡◌, ℕ, ◌<◌, List, length, None, refl, sym, ap, subst, arith}
+use Rattle.std.proofs.Common.{◌≡◌, ℕ, ◌<◌, List, length, None, refl, sym, ◌∙◌, ap, subst, arith}
 use Rattle.serde_json.specs.Data.{Data}
 use Rattle.tile_model.specs.declared.Letter.{Letter}
 use Rattle.tile_model.specs.Tessellations.{TileKind}
+use Rattle.tile_model.specs.Relation.{Change, AreRelated}
+use Rattle.log_model.specs.LogTexts.{IsFirstBadLine as IsFirstBadLogLine}
 use Rattle.tile_model.specs.Walks.{type_of}
 use Rattle.tile_model.specs.declared.fault.KindFault.{KindFault}
 use Rattle.tree_model.specs.Automata.{TreeAutomaton}
@@ -15,14 +17,14 @@ use Rattle.structure_check.specs.Broken.{IsFirstBroken}
 use Rattle.tree_model.specs.Conditions.{IsAccepted}
 use Rattle.merge_model.specs.Merging.{IsMerged}
 use Rattle.merge_laws.proofs.Unique.{one_merging}
-use Rattle.call_words.specs.Tasks.{Task, TellType, CheckRules, RunSession, LearnRules, MergeRules, RulesFrom, FromFile, FromTeacher, Ask}
+use Rattle.call_words.specs.Tasks.{Task, TellType, CheckRules, RunSession, LearnRules, MergeRules, WriteLog, VerifyLog, RulesFrom, FromFile, FromTeacher, Ask}
 use Rattle.walker_run.specs.declared.line.Line.{Line}
-use Rattle.walker_run.specs.declared.line.Line.TheVariants.{TypeTold, Accepted, TessLine, TessKinds, RulesShape}
+use Rattle.walker_run.specs.declared.line.Line.TheVariants.{TypeTold, Accepted, TessLine, TessKinds, RulesShape, LogLine, LogChange}
 use Rattle.walker_run.specs.Runs.{Call}
-use Rattle.walker_run.specs.Held.{Outcome, Loaded, Refused, Lesson, Holds, HoldsTooMany, IsTess, tess_too_long, tess_line, tess_kinds, tess_loaded, IsRules, rules_too_long, rules_syntax, rules_shape, rules_broken, rules_loaded, broken_at, IsMade, made_spherical, made_rules, made_taught, RulesOf, tess_limit, rules_limit}
-use Rattle.walker_run.specs.Due.{Contents, TypeRow, type_no_tess, type_no_kind, type_told, CheckRow, check_no_tess, check_no_rules, check_accepted, SessionRow, session_no_tess, session_no_kind, session_no_rules, Merges, MergeRow, merge_no_tess, merge_no_rules, merge_accepted, MakesFor, Row, IsDue, no_form, by_task}
+use Rattle.walker_run.specs.Held.{Outcome, Loaded, Refused, Lesson, Holds, HoldsTooMany, IsTess, tess_too_long, tess_line, tess_kinds, tess_loaded, IsRules, rules_too_long, rules_syntax, rules_shape, rules_broken, rules_loaded, IsLog, log_too_long, log_line, log_loaded, broken_at, IsMade, made_spherical, made_rules, made_taught, RulesOf, tess_limit, rules_limit, log_limit}
+use Rattle.walker_run.specs.Due.{Contents, TypeRow, type_no_tess, type_no_kind, type_told, CheckRow, check_no_tess, check_no_rules, check_accepted, SessionRow, session_no_tess, session_no_kind, session_no_rules, Merges, MergeRow, merge_no_tess, merge_no_rules, merge_accepted, KindRow, kind_no_tess, kind_not_there, kind_there, PassFar, LogRow, log_no_rules, log_too_deep, log_apart, IsVerdict, log_leads, log_refused, log_ends, VerifyRow, verify_no_log, verify_log, MakesFor, Row, IsDue, no_form, by_task}
 use Rattle.walker_run.specs.Below.{LawsBelow}
-use Rattle.walker_run.specs.Laws.{OneLineIsDue, OneSessionIsServed, NeverBoth}
+use Rattle.walker_run.specs.Laws.{OneLineIsDue, OneSessionIsServed, NeverBoth, NeverALogToo}
 
 -- a file holds one list of bytes, within its limit or not
 module _ (contents : Contents) (file : List ℕ) (limit : ℕ) where
@@ -209,6 +211,8 @@ one_makes below contents lesson (LearnRules tess cells out) kinds kinds' a b one
     let same : a ≡ b = cc outcome in
     sym same
 one_makes below contents lesson (MergeRules tess rules out) kinds kinds' a b one two = one_merge below contents tess rules kinds kinds' a b one two
+one_makes below contents lesson (WriteLog tess rules k u w) kinds kinds' a b one two = absurd one
+one_makes below contents lesson (VerifyLog tess k u w log) kinds kinds' a b one two = absurd one
 
 -- the rows of a form say one line
 module _ (below : LawsBelow) (contents : Contents) (tess : List ℕ) (k : ℕ) (walk : List Letter) where
@@ -278,12 +282,99 @@ module _ (below : LawsBelow) (contents : Contents) (tess rules : List ℕ) where
       let same : b ≡ a = one_merge below contents tess rules kinds kinds' a b merges merges' in
       λ i. Accepted (length (sym same i).states) (length (sym same i).corners)
 
+-- a log file comes to one outcome
+module _ (below : LawsBelow) (contents : Contents) (file : List ℕ) where
+  same_log_line : (bytes other : List ℕ) (n m : ℕ) → Holds contents file log_limit bytes → Holds contents file log_limit other → IsFirstBadLogLine bytes n → IsFirstBadLogLine other m → n ≡ m
+  same_log_line bytes other n m one two bad worse =
+      below.one_log_line bytes n m bad (subst (λ (b : List ℕ). IsFirstBadLogLine b m) (one_bytes contents file log_limit bytes other one two) worse)
+
+  one_log_file : {o : Outcome (List Change)} → IsLog contents file o → {p : Outcome (List Change)} → IsLog contents file p → o ≡ p
+  one_log_file (log_too_long x) (log_too_long y) = refl
+  one_log_file (log_too_long x) (log_line bytes n holds bad) = absurd (not_both contents file log_limit bytes x holds)
+  one_log_file (log_too_long x) (log_loaded bytes log holds texts is) = absurd (not_both contents file log_limit bytes x holds)
+  one_log_file (log_line bytes n holds bad) (log_too_long y) = absurd (not_both contents file log_limit bytes y holds)
+  one_log_file (log_line bytes n holds bad) (log_line other m holds' worse) = ap (λ (l : ℕ). Refused (LogLine l)) (same_log_line bytes other n m holds holds' bad worse)
+  one_log_file (log_line bytes n holds bad) (log_loaded other log holds' texts is) = absurd (below.no_log bytes n bad log texts (is ∙ one_bytes contents file log_limit bytes other holds holds'))
+  one_log_file (log_loaded bytes log holds texts is) (log_too_long y) = absurd (not_both contents file log_limit bytes y holds)
+  one_log_file (log_loaded bytes log holds texts is) (log_line other n holds' bad) = absurd (below.no_log other n bad log texts (is ∙ one_bytes contents file log_limit other bytes holds' holds))
+  one_log_file (log_loaded bytes log holds texts is) (log_loaded other more holds' texts' is') =
+      ap (λ (l : List Change). Loaded l) (below.one_log log more texts texts' (is ∙ sym (is' ∙ one_bytes contents file log_limit bytes other holds holds')))
+
+-- the rows of a form that names a kind say one line, where those behind the kind do
+module _ (below : LawsBelow) (contents : Contents) (tess : List ℕ) (k : ℕ) (Next : List TileKind → Line → Type 0) where
+  one_of_kind : ((kinds : List TileKind) (line other : Line) → Next kinds line → Next kinds other → line ≡ other)
+      → {line : Line} → KindRow contents tess k Next line → {other : Line} → KindRow contents tess k Next other → line ≡ other
+  one_of_kind one (kind_no_tess line is) (kind_no_tess other is') = one_refusal below contents tess is is'
+  one_of_kind one (kind_no_tess line is) (kind_not_there kinds is' few) = absurd (not_refused_too below contents tess is' is)
+  one_of_kind one (kind_no_tess line is) (kind_there kinds other is' lt next) = absurd (not_refused_too below contents tess is' is)
+  one_of_kind one (kind_not_there kinds is few) (kind_no_tess other is') = absurd (not_refused_too below contents tess is is')
+  one_of_kind one (kind_not_there kinds is few) (kind_not_there kinds' is' few') = refl
+  one_of_kind one (kind_not_there kinds is few) (kind_there kinds' other is' lt next) = let same = one_loaded below contents tess is is' in absurd (omega (arith, ap length same, few, lt))
+  one_of_kind one (kind_there kinds line is lt next) (kind_no_tess other is') = absurd (not_refused_too below contents tess is is')
+  one_of_kind one (kind_there kinds line is lt next) (kind_not_there kinds' is' few) = let same = one_loaded below contents tess is is' in absurd (omega (arith, ap length same, few, lt))
+  one_of_kind one (kind_there kinds line is lt next) (kind_there kinds' other is' lt' next') =
+      one kinds line other next (subst (λ (ks : List TileKind). Next ks other) (sym (one_loaded below contents tess is is')) next')
+
+  -- where K is a kind, what is due stands behind it
+  pub behind_kind : (kinds : List TileKind) → IsTess contents tess (Loaded kinds) → k < length kinds → {line : Line} → KindRow contents tess k Next line → Next kinds line
+  behind_kind kinds is lt (kind_no_tess line is') = absurd (not_refused_too below contents tess is is')
+  behind_kind kinds is lt (kind_not_there kinds' is' few) = let same = one_loaded below contents tess is is' in absurd (omega (arith, ap length same, few, lt))
+  behind_kind kinds is lt (kind_there kinds' line is' lt' next) = subst (λ (ks : List TileKind). Next ks line) (sym (one_loaded below contents tess is is')) next
+
+module _ (below : LawsBelow) (contents : Contents) (rules : List ℕ) (k : ℕ) (u w : List Letter) (kinds : List TileKind) where
+  -- rules that are loaded are not refused
+  read_or_not : (a : TreeAutomaton) (line : Line) → IsRules contents kinds rules (Loaded a) → IsRules contents kinds rules (Refused line) → ⊥
+  read_or_not a line loaded refused = let same = one_rules below contents kinds rules loaded refused in cc same
+
+  one_logged : {line : Line} → LogRow contents rules k u w kinds line → {other : Line} → LogRow contents rules k u w kinds other → line ≡ other
+  one_logged (log_no_rules line refused) (log_no_rules other refused') = let same = one_rules below contents kinds rules refused refused' in cc same
+  one_logged (log_no_rules line refused) (log_too_deep a loaded far) = absurd (read_or_not a line loaded refused)
+  one_logged (log_no_rules line refused) (log_apart a loaded near apart) = absurd (read_or_not a line loaded refused)
+  one_logged (log_too_deep a loaded far) (log_no_rules line refused) = absurd (read_or_not a line loaded refused)
+  one_logged (log_too_deep a loaded far) (log_too_deep b loaded' far') = refl
+  one_logged (log_too_deep a loaded far) (log_apart b loaded' near apart) = absurd (near far)
+  one_logged (log_apart a loaded near apart) (log_no_rules line refused) = absurd (read_or_not a line loaded refused)
+  one_logged (log_apart a loaded near apart) (log_too_deep b loaded' far) = absurd (near far)
+  one_logged (log_apart a loaded near apart) (log_apart b loaded' near' apart') = refl
+
+  -- no line is due where a log is written
+  unlogged : (a : TreeAutomaton) → IsRules contents kinds rules (Loaded a) → ¬ PassFar kinds k u w → AreRelated kinds (k, 0) u w → {line : Line} → LogRow contents rules k u w kinds line → ⊥
+  unlogged a loaded near related (log_no_rules line refused) = read_or_not a line loaded refused
+  unlogged a loaded near related (log_too_deep b loaded' far) = near far
+  unlogged a loaded near related (log_apart b loaded' near' apart) = apart related
+
+module _ (below : LawsBelow) (kinds : List TileKind) (k : ℕ) (u w : List Letter) (log : List Change) where
+  one_verdict : {line : Line} → IsVerdict kinds k u w log line → {other : Line} → IsVerdict kinds k u w log other → line ≡ other
+  one_verdict (log_leads leads) (log_leads leads') = refl
+  one_verdict (log_leads leads) (log_refused n refused) = absurd (below.leads_nowhere kinds (k, 0) log u w n refused leads)
+  one_verdict (log_leads leads) (log_ends (v, there, other)) = absurd (other (below.one_walk kinds (k, 0) log u v w there leads))
+  one_verdict (log_refused n refused) (log_leads leads) = absurd (below.leads_nowhere kinds (k, 0) log u w n refused leads)
+  one_verdict (log_refused n refused) (log_refused m refused') = ap (λ (x : ℕ). LogChange x) (below.one_refused kinds (k, 0) log u n m refused refused')
+  one_verdict (log_refused n refused) (log_ends (v, there, other)) = absurd (below.leads_nowhere kinds (k, 0) log u v n refused there)
+  one_verdict (log_ends (v, there, other)) (log_leads leads) = absurd (other (below.one_walk kinds (k, 0) log u v w there leads))
+  one_verdict (log_ends (v, there, other)) (log_refused n refused) = absurd (below.leads_nowhere kinds (k, 0) log u v n refused there)
+  one_verdict (log_ends (v, there, other)) (log_ends (v', there', other')) = refl
+
+module _ (below : LawsBelow) (contents : Contents) (k : ℕ) (u w : List Letter) (file : List ℕ) (kinds : List TileKind) where
+  one_verified : {line : Line} → VerifyRow contents k u w file kinds line → {other : Line} → VerifyRow contents k u w file kinds other → line ≡ other
+  one_verified (verify_no_log line refused) (verify_no_log other refused') = let same = one_log_file below contents file refused refused' in cc same
+  one_verified (verify_no_log line refused) (verify_log log other loaded verdict) = let same = one_log_file below contents file refused loaded in absurd (cc same)
+  one_verified (verify_log log line loaded verdict) (verify_no_log other refused) = let same = one_log_file below contents file refused loaded in absurd (cc same)
+  one_verified (verify_log log line loaded verdict) (verify_log more other loaded' verdict') =
+      let outcome = one_log_file below contents file loaded loaded' in
+      let same : log ≡ more = cc outcome in
+      one_verdict below kinds k u w log verdict (subst (λ (l : List Change). IsVerdict kinds k u w l other) (sym same) verdict')
+
 one_row : LawsBelow → (contents : Contents) (lesson : Lesson) (task : Task) (line other : Line) → Row contents lesson task line → Row contents lesson task other → line ≡ other
 one_row below contents lesson (TellType tess k walk) line other one two = one_type below contents tess k walk one two
 one_row below contents lesson (CheckRules tess rules) line other one two = one_check below contents lesson tess (FromFile rules) one two
 one_row below contents lesson (RunSession tess k rules) line other one two = one_refused below contents lesson tess k rules one two
 one_row below contents lesson (LearnRules tess cells out) line other one two = one_check below contents lesson tess (FromTeacher cells) one two
 one_row below contents lesson (MergeRules tess rules out) line other one two = one_left below contents tess rules one two
+one_row below contents lesson (WriteLog tess rules k u w) line other one two =
+    one_of_kind below contents tess k (LogRow contents rules k u w) (λ kinds l m next next'. one_logged below contents rules k u w kinds next next') one two
+one_row below contents lesson (VerifyLog tess k u w log) line other one two =
+    one_of_kind below contents tess k (VerifyRow contents k u w log) (λ kinds l m next next'. one_verified below contents k u w log kinds next next') one two
 
 -- a line that is due to words that ask for a task stands in the rows of that task
 pub row_of : LawsBelow → (call : Call) (task : Task) → Ask call.words task → {line : Line} → IsDue call line → Row call.contents call.lesson task line
@@ -315,3 +406,9 @@ pub never_both : LawsBelow → NeverBoth
 never_both below call line kinds a k due serves =
     unrefused below call.contents call.lesson serves.tess k serves.rules kinds a (tess_loaded serves.tess_bytes kinds serves.holds_tess serves.tess_spelling serves.valid) serves.is_kind serves.loaded
     (row_of below call (RunSession serves.tess k serves.rules) serves.form due)
+
+pub never_a_log : LawsBelow → NeverALogToo
+never_a_log below call line due logs =
+    unlogged below call.contents logs.rules logs.k logs.u logs.w logs.kinds logs.ready.automaton logs.ready.read logs.ready.near logs.related
+    (behind_kind below call.contents logs.tess logs.k (LogRow call.contents logs.rules logs.k logs.u logs.w) logs.kinds logs.ready.loaded logs.ready.is_kind
+    (row_of below call (WriteLog logs.tess logs.rules logs.k logs.u logs.w) logs.form due))

@@ -2,7 +2,7 @@
 use Rattle.std.proofs.Common.{ℕ, List, None}
 use Rattle.tile_model.specs.Tessellations.{TileKind}
 use Rattle.tree_model.specs.Automata.{TreeAutomaton}
-use Rattle.call_words.specs.Tasks.{Task, TellType, CheckRules, RunSession, LearnRules, MergeRules, RulesFrom, FromFile, FromTeacher}
+use Rattle.call_words.specs.Tasks.{Task, TellType, CheckRules, RunSession, LearnRules, MergeRules, WriteLog, VerifyLog, RulesFrom, FromFile, FromTeacher}
 use Rattle.walker_run.specs.declared.line.Line.{Line}
 use Rattle.walker_run.specs.Runs.{call_with}
 use Rattle.walker_run.specs.Held.{Outcome, Loaded, Refused, Lesson, IsMade, made_spherical, made_rules, made_taught, RulesOf}
@@ -34,6 +34,8 @@ module _ (contents : Contents) (lesson : Lesson) where
   row_whatever (RunSession tess k rules) line row = session_whatever tess k rules row
   row_whatever (LearnRules tess cells out) line row = check_whatever tess (FromTeacher cells) row
   row_whatever (MergeRules tess rules out) line row = row
+  row_whatever (WriteLog tess rules k u w) line row = row
+  row_whatever (VerifyLog tess k u w log) line row = row
 
   pub due_whatever : (words : List (List ℕ)) {line : Line} → IsDue (call_with words contents None) line → IsDue (call_with words contents lesson) line
   due_whatever words (no_form none) = no_form none

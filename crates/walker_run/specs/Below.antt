@@ -1,5 +1,5 @@
 -- What the crates below say of their own definitions, as far as the table rests on it: a file comes
--- to one outcome, and words to one task.
+-- to one outcome, words to one task, and a log to one walk.
 use Rattle.std.specs.Prelude.{◌≡◌, ℕ, List}
 use Rattle.tree_model.specs.Automata.{TreeAutomaton}
 use Rattle.tess_text.specs.Laws.{OneBadLine, GrammarHasNoBadLine, OneSpelling}
@@ -8,6 +8,8 @@ use Rattle.rules_file.specs.Spelling.{IsRulesFile}
 use Rattle.rules_file.specs.Laws.{SpeltDoesNotFail, OneFirstFault}
 use Rattle.structure_check.specs.Laws.{BrokenRefutes, OneFirstBroken}
 use Rattle.call_words.specs.Laws.{OneTaskIsAsked}
+use Rattle.log_model.specs.Laws.{TextsAreOfOneLog, BadTextsAreOfNoLog, OneLineIsBad}
+use Rattle.log_model.specs.Laws.{LogsAreFunctions, RefusedLeadNowhere, OneIsRefused}
 
 pub record LawsBelow : Type 0 where
   pub one_bad_line : OneBadLine
@@ -22,3 +24,9 @@ pub record LawsBelow : Type 0 where
   pub not_broken : BrokenRefutes
   pub one_broken : OneFirstBroken
   pub one_task : OneTaskIsAsked
+  pub one_log : TextsAreOfOneLog
+  pub no_log : BadTextsAreOfNoLog
+  pub one_log_line : OneLineIsBad
+  pub one_walk : LogsAreFunctions
+  pub leads_nowhere : RefusedLeadNowhere
+  pub one_refused : OneIsRefused

@@ -1,26 +1,32 @@
 -- The table: which line is due to the words, to what the files hold and to what the teacher
--- answers, and over which rules walkers are served instead.
+-- answers, and over which rules walkers are served instead, or where a log is written.
 -- No fault of the outside and no want of memory comes between.
 -- Of a fault of the outside it is said which files may be fetched.
 -- Each form of the words has rows of its own.
-use Rattle.std.specs.Prelude.{◌≡◌, ℕ, ◌<◌, ◌≤◌, List, length, Option, Some}
+use Rattle.std.specs.Prelude.{◌≡◌, ◌⊎◌, ℕ, ◌<◌, ◌≤◌, List, length, Option, Some, All}
 use Rattle.tile_model.specs.declared.Letter.{Letter}
 use Rattle.tile_model.specs.Tessellations.{TileKind}
 use Rattle.tile_model.specs.Walks.{type_of}
 use Rattle.tile_model.specs.Validity.{IsValid}
+use Rattle.tile_model.specs.Relation.{Change, Lead, AreRelated}
 use Rattle.tree_model.specs.Automata.{TreeAutomaton}
 use Rattle.tess_text.specs.Spelling.{IsSpelling}
 use Rattle.merge_model.specs.Merging.{IsMerged}
 use Rattle.call_words.specs.Tasks.{Task, TellType, CheckRules, RunSession, LearnRules, MergeRules}
-use Rattle.call_words.specs.Tasks.{Ask, HaveNoForm, IsRunForm, RulesFrom, FromFile, FromTeacher}
-use Rattle.call_words.specs.Tasks.{stored_in}
+use Rattle.call_words.specs.Tasks.{WriteLog, VerifyLog}
+use Rattle.call_words.specs.Tasks.{Ask, HaveNoForm, IsRunForm, IsLogForm}
+use Rattle.call_words.specs.Tasks.{RulesFrom, FromFile, FromTeacher, stored_in}
+use Rattle.log_model.specs.Logs.{IsFirstRefused, LeadsElsewhere}
+use Rattle.log_model.specs.LogTexts.{HasText, log_text}
+use Rattle.derivation_log.specs.Passing.{PassesFar}
 use Rattle.walker_run.specs.declared.line.Role.{Role}
-use Rattle.walker_run.specs.declared.line.Role.TheVariants.{Tess, Rules}
+use Rattle.walker_run.specs.declared.line.Role.TheVariants.{Tess, Rules, Log}
 use Rattle.walker_run.specs.declared.line.Line.{Line}
 use Rattle.walker_run.specs.declared.line.Line.TheVariants.{TypeTold, Accepted, Usage, FileFault}
-use Rattle.walker_run.specs.declared.line.Line.TheVariants.{StoreFault}
+use Rattle.walker_run.specs.declared.line.Line.TheVariants.{StoreFault, Related, Apart, TooDeep}
+use Rattle.walker_run.specs.declared.line.Line.TheVariants.{LogChange, LogEnd}
 use Rattle.walker_run.specs.Runs.{Call}
-use Rattle.walker_run.specs.Held.{Loaded, Refused, Holds, IsTess, IsRules, IsMade, RulesOf}
+use Rattle.walker_run.specs.Held.{Loaded, Refused, Holds, IsTess, IsRules, IsLog, IsMade, RulesOf}
 use Rattle.walker_run.specs.Held.{tess_limit}
 use Rattle.walker_run.specs.Held.{Lesson}
 
@@ -123,6 +129,87 @@ pub data MergeRow (contents : Contents) (tess rules : List ℕ) : Line → Type 
       → Merges contents tess rules kinds a
       → MergeRow contents tess rules (Accepted (length a.states) (length a.corners))
 
+-- The rows of a form that names a kind of the tessellation, which `Next` has where it is there.
+pub data KindRow
+    (contents : Contents) (tess : List ℕ) (k : ℕ) (Next : List TileKind → Line → Type 0) :
+    Line → Type 0 where
+  -- the tessellation file is refused
+  kind_no_tess :
+      (line : Line)
+      → IsTess contents tess (Refused line)
+      → KindRow contents tess k Next line
+  -- the words name no kind of the tessellation
+  kind_not_there :
+      (kinds : List TileKind)
+      → IsTess contents tess (Loaded kinds)
+      → length kinds ≤ k
+      → KindRow contents tess k Next Usage
+  -- they name one
+  kind_there :
+      (kinds : List TileKind) (line : Line)
+      → IsTess contents tess (Loaded kinds)
+      → k < length kinds
+      → Next kinds line
+      → KindRow contents tess k Next line
+
+-- one of the two walks passes a tile that lies more than 4,000 crossings from the first one
+abbrev pub PassFar : List TileKind → ℕ → List Letter → List Letter → Type 0
+PassFar kinds k u w = PassesFar kinds k u ⊎ PassesFar kinds k w
+
+-- The rows of the form `log`, over a tessellation.
+-- Where the walks are related and neither passes too far no line is due: the text of a log is
+-- written, of which `IsLogText` says all.
+pub data LogRow
+    (contents : Contents) (rules : List ℕ) (k : ℕ) (u w : List Letter) (kinds : List TileKind) :
+    Line → Type 0 where
+  -- the rules file is refused
+  log_no_rules :
+      (line : Line)
+      → IsRules contents kinds rules (Refused line)
+      → LogRow contents rules k u w kinds line
+  -- one of the walks passes too far, whether they are related or not
+  log_too_deep :
+      (a : TreeAutomaton)
+      → IsRules contents kinds rules (Loaded a)
+      → PassFar kinds k u w
+      → LogRow contents rules k u w kinds TooDeep
+  -- the walks are not related
+  log_apart :
+      (a : TreeAutomaton)
+      → IsRules contents kinds rules (Loaded a)
+      → ¬ PassFar kinds k u w
+      → ¬ AreRelated kinds (k, 0) u w
+      → LogRow contents rules k u w kinds Apart
+
+-- what is said of a log and two walks, from the start of a kind
+pub data IsVerdict (kinds : List TileKind) (k : ℕ) (u w : List Letter) (log : List Change) :
+    Line → Type 0 where
+  -- it leads from walk u to walk w
+  log_leads : Lead kinds (k, 0) log u w → IsVerdict kinds k u w log Related
+  -- change n is the first that is not allowed
+  log_refused :
+      (n : ℕ)
+      → IsFirstRefused kinds (k, 0) u log n
+      → IsVerdict kinds k u w log (LogChange n)
+  -- all changes are allowed, and lead to another walk
+  log_ends : LeadsElsewhere kinds (k, 0) log u w → IsVerdict kinds k u w log LogEnd
+
+-- the rows of the form `verify`, over a tessellation
+pub data VerifyRow
+    (contents : Contents) (k : ℕ) (u w : List Letter) (file : List ℕ) (kinds : List TileKind) :
+    Line → Type 0 where
+  -- the log file is refused
+  verify_no_log :
+      (line : Line)
+      → IsLog contents file (Refused line)
+      → VerifyRow contents k u w file kinds line
+  -- it holds a log
+  verify_log :
+      (log : List Change) (line : Line)
+      → IsLog contents file (Loaded log)
+      → IsVerdict kinds k u w log line
+      → VerifyRow contents k u w file kinds line
+
 -- the rows of a task
 abbrev pub Row : Contents → Lesson → Task → Line → Type 0
 Row contents lesson (TellType tess k walk) = TypeRow contents tess k walk
@@ -130,6 +217,10 @@ Row contents lesson (CheckRules tess rules) = CheckRow contents lesson tess (Fro
 Row contents lesson (RunSession tess k rules) = SessionRow contents lesson tess k rules
 Row contents lesson (LearnRules tess cells out) = CheckRow contents lesson tess (FromTeacher cells)
 Row contents lesson (MergeRules tess rules out) = MergeRow contents tess rules
+Row contents lesson (WriteLog tess rules k u w) =
+    KindRow contents tess k (LogRow contents rules k u w)
+Row contents lesson (VerifyLog tess k u w log) =
+    KindRow contents tess k (VerifyRow contents k u w log)
 
 pub data IsDue (call : Call) : Line → Type 0 where
   -- the words are in no form
@@ -166,6 +257,62 @@ pub record ServesSome (call : Call) : Type 0 where
   pub kind : ℕ
   pub serves : Serves call kinds automaton kind
 
+-- The files hold a tessellation with a kind of this number and rules, and no walk passes too far.
+pub record IsReady
+    (contents : Contents) (tess rules : List ℕ) (k : ℕ) (u w : List Letter)
+    (kinds : List TileKind) : Type 0 where
+  pub automaton : TreeAutomaton
+  pub loaded : IsTess contents tess (Loaded kinds)
+  pub is_kind : k < length kinds
+  pub read : IsRules contents kinds rules (Loaded automaton)
+  pub near : ¬ PassFar kinds k u w
+
+-- The text is that of a log which leads from walk u to walk w.
+-- Which of these logs it is is not said.
+pub record IsLogText
+    (contents : Contents) (tess rules : List ℕ) (k : ℕ) (u w : List Letter) (text : List ℕ) :
+    Type 0 where
+  pub kinds : List TileKind
+  pub log : List Change
+  pub ready : IsReady contents tess rules k u w kinds
+  pub have_text : All HasText log
+  pub leads : Lead kinds (k, 0) log u w
+  pub is : text ≡ log_text log
+
+-- a task writes such a text
+abbrev pub WritesFor : Contents → Task → List ℕ → Type 0
+WritesFor contents (TellType tess k walk) text = ⊥
+WritesFor contents (CheckRules tess rules) text = ⊥
+WritesFor contents (RunSession tess k rules) text = ⊥
+WritesFor contents (LearnRules tess cells out) text = ⊥
+WritesFor contents (MergeRules tess rules out) text = ⊥
+WritesFor contents (WriteLog tess rules k u w) text = IsLogText contents tess rules k u w text
+WritesFor contents (VerifyLog tess k u w log) text = ⊥
+
+-- The words are `log TESS RULES K U W`, the files hold what they should within their limits, K is a
+-- kind of the tessellation, neither walk passes too far, and the two are related.
+-- Then a log is written.
+pub record Logs (call : Call) : Type 0 where
+  pub tess : List ℕ
+  pub rules : List ℕ
+  pub k : ℕ
+  pub u : List Letter
+  pub w : List Letter
+  pub kinds : List TileKind
+  pub form : IsLogForm call.words tess rules k u w
+  pub ready : IsReady call.contents tess rules k u w kinds
+  pub related : AreRelated kinds (k, 0) u w
+
+-- the call writes this text, of a log
+pub record LogsText (call : Call) (text : List ℕ) : Type 0 where
+  pub tess : List ℕ
+  pub rules : List ℕ
+  pub k : ℕ
+  pub u : List Letter
+  pub w : List Letter
+  pub form : IsLogForm call.words tess rules k u w
+  pub logs : IsLogText call.contents tess rules k u w text
+
 -- Where a task fetches the file of this role: where nothing that is tried before it refuses.
 abbrev pub FetchesFor : Contents → Task → Role → Type 0
 FetchesFor contents task Tess = Unit {0}
@@ -178,6 +325,12 @@ FetchesFor contents (RunSession tess k (FromTeacher cells)) Rules = ⊥
 FetchesFor contents (LearnRules tess cells out) Rules = ⊥
 FetchesFor contents (MergeRules tess rules out) Rules =
     (kinds : List TileKind) × IsTess contents tess (Loaded kinds)
+FetchesFor contents (WriteLog tess rules k u w) Rules =
+    (kinds : List TileKind) × IsTess contents tess (Loaded kinds) × (k < length kinds)
+FetchesFor contents (VerifyLog tess k u w log) Rules = ⊥
+FetchesFor contents (VerifyLog tess k u w log) Log =
+    (kinds : List TileKind) × IsTess contents tess (Loaded kinds) × (k < length kinds)
+FetchesFor contents task Log = ⊥
 
 -- the call asks for a task that fetches the file of this role
 pub record Fetches (call : Call) (role : Role) : Type 0 where
@@ -200,6 +353,8 @@ MakesFor contents lesson (RunSession tess k rules) kinds a = ⊥
 MakesFor contents lesson (LearnRules tess cells out) kinds a =
     Makes contents lesson tess cells kinds a
 MakesFor contents lesson (MergeRules tess rules out) kinds a = Merges contents tess rules kinds a
+MakesFor contents lesson (WriteLog tess rules k u w) kinds a = ⊥
+MakesFor contents lesson (VerifyLog tess k u w log) kinds a = ⊥
 
 -- the task is to make rules
 abbrev pub IsToMake : Task → Type 0
@@ -208,6 +363,8 @@ IsToMake (CheckRules tess rules) = ⊥
 IsToMake (RunSession tess k rules) = ⊥
 IsToMake (LearnRules tess cells out) = Unit {0}
 IsToMake (MergeRules tess rules out) = Unit {0}
+IsToMake (WriteLog tess rules k u w) = ⊥
+IsToMake (VerifyLog tess k u w log) = ⊥
 
 -- the task names this file to store rules in
 abbrev pub StoresAs : Task → List ℕ → Type 0

@@ -1,6 +1,9 @@
 -- What a step of a call comes to, and what it leaves of the outside.
 use Rattle.std.specs.Prelude.{◌≡◌, ◌⊎◌, ℕ, ◌<◌, ◌≤◌, Bool, IsTrue, List, length, Option, Some, None}
-use Rattle.std.specs.Prelude.{Result, Ok, Err}
+use Rattle.std.specs.Prelude.{Result, Ok, Err, All}
+use Rattle.tile_model.specs.declared.Letter.{Letter}
+use Rattle.tile_model.specs.Relation.{Change, Lead, AreRelated}
+use Rattle.log_model.specs.LogTexts.{HasText, log_text}
 use Rattle.tile_model.specs.Tessellations.{TileKind}
 use Rattle.tree_model.specs.Automata.{TreeAutomaton}
 use Rattle.tree_model.specs.Conditions.{IsAccepted}
@@ -11,18 +14,20 @@ use Rattle.state_learner.specs.GiveUps.{GiveUp}
 use Rattle.way_io.specs.Counts.{Rose}
 use Rattle.way_io.specs.Contents.{KeepsAll}
 use Rattle.call_words.specs.Tasks.{Task, TellType, CheckRules, RunSession, LearnRules, MergeRules}
-use Rattle.call_words.specs.Tasks.{Ask, HaveNoForm}
+use Rattle.call_words.specs.Tasks.{WriteLog, VerifyLog, Ask, HaveNoForm}
 use Rattle.walker_run.specs.declared.line.Role.{Role}
 use Rattle.walker_run.specs.declared.line.Line.{Line}
 use Rattle.walker_run.specs.declared.line.Line.TheVariants.{Usage, Accepted, FileFault, StoreFault}
 use Rattle.walker_run.specs.declared.line.Line.TheVariants.{Closed, GaveUp, InputTooLong}
+use Rattle.walker_run.specs.declared.line.Line.TheVariants.{Apart, TooDeep}
 use Rattle.walker_run.specs.declared.stop.Stop.{Stop}
 use Rattle.walker_run.specs.declared.stop.Stop.TheVariants.{Say as StopSay, Memory}
 use Rattle.walker_run.specs.declared.tasks.Work.{Work}
-use Rattle.walker_run.specs.declared.tasks.Work.TheVariants.{Say, Serve}
+use Rattle.walker_run.specs.declared.tasks.Work.TheVariants.{Say, Serve, Write}
 use Rattle.walker_run.specs.Lines.{MayStore, status_of}
 use Rattle.walker_run.specs.Held.{Loaded, Refused, Lesson, IsTess, RulesOf}
 use Rattle.walker_run.specs.Due.{Contents, Row, FetchesFor, StoresFor, StoresAs, MakesFor}
+use Rattle.walker_run.specs.Due.{WritesFor, PassFar, IsVerdict}
 use Rattle.walker_run.specs.Outcome.{HasGivenUpOn, IsClosedFor, IsGivenUpFor}
 
 -- what the files tell at one moment, and what a teacher tells
@@ -97,15 +102,17 @@ lesson_of (Err (StopSay line)) = Some (Refused line)
 lesson_of (Err Memory) = None
 
 -- What the words come to: a line, walkers that are served over these rules and in the tree of this
--- kind, or want of memory.
+-- kind, a text that the table does not determine, or want of memory.
 pub data End : Type 0 where
   Says : Line → End
   Opens : List TileKind → TreeAutomaton → ℕ → End
+  Prints : List ℕ → End
   Lacks : End
 
 abbrev pub end_of : Result Work Stop → End
 end_of (Ok (Say line)) = Says line
 end_of (Ok (Serve rules k)) = Opens rules.kinds rules.automaton k
+end_of (Ok (Write text)) = Prints text.items
 end_of (Err (StopSay line)) = Says line
 end_of (Err Memory) = Lacks
 
@@ -115,6 +122,8 @@ ServesFor contents lesson (TellType tess k walk) kinds a kind = ⊥
 ServesFor contents lesson (CheckRules tess rules) kinds a kind = ⊥
 ServesFor contents lesson (LearnRules tess cells out) kinds a kind = ⊥
 ServesFor contents lesson (MergeRules tess rules out) kinds a kind = ⊥
+ServesFor contents lesson (WriteLog tess rules k u w) kinds a kind = ⊥
+ServesFor contents lesson (VerifyLog tess k u w log) kinds a kind = ⊥
 ServesFor contents lesson (RunSession tess k rules) kinds a kind =
     IsTess contents tess (Loaded kinds)
     × RulesOf contents lesson kinds rules (Loaded a)
@@ -134,12 +143,15 @@ pub data FitsTask (contents : Contents) (lesson : Lesson) (task : Task) : End �
       (kinds : List TileKind) (a : TreeAutomaton) (k : ℕ)
       → ServesFor contents lesson task kinds a k
       → FitsTask contents lesson task (Opens kinds a k)
+  fits_text :
+      (text : List ℕ) → WritesFor contents task text → FitsTask contents lesson task (Prints text)
   fits_nothing : FitsTask contents lesson task Lacks
 
 -- a file may have been stored where this is the end
 abbrev pub MayStoreAt : End → Type 0
 MayStoreAt (Says line) = MayStore (status_of line)
 MayStoreAt (Opens kinds a k) = ⊥
+MayStoreAt (Prints text) = ⊥
 MayStoreAt Lacks = Unit {0}
 
 -- the task is to answer the commands of the input
@@ -149,6 +161,18 @@ IsSession (CheckRules tess rules) = ⊥
 IsSession (RunSession tess k rules) = Unit {0}
 IsSession (LearnRules tess cells out) = ⊥
 IsSession (MergeRules tess rules out) = ⊥
+IsSession (WriteLog tess rules k u w) = ⊥
+IsSession (VerifyLog tess k u w log) = ⊥
+
+-- the task is to write a log
+abbrev pub IsToLog : Task → Type 0
+IsToLog (TellType tess k walk) = ⊥
+IsToLog (CheckRules tess rules) = ⊥
+IsToLog (RunSession tess k rules) = ⊥
+IsToLog (LearnRules tess cells out) = ⊥
+IsToLog (MergeRules tess rules out) = ⊥
+IsToLog (WriteLog tess rules k u w) = Unit {0}
+IsToLog (VerifyLog tess k u w log) = ⊥
 
 -- A task was carried out, and came to this end.
 pub record IsCarriedOut
@@ -190,6 +214,8 @@ pub record IsCarriedOut
   pub ready :
       (kinds : List TileKind) (a : TreeAutomaton) (k : ℕ) → end ≡ Opens kinds a k
       → IsSession task × (k < length kinds) × IsAccepted kinds a
+  -- A text is written for the form `log` alone.
+  pub logs : (text : List ℕ) → end ≡ Prints text → IsToLog task
 
 -- Rules were kept: stored where a file is named for them, and told.
 pub record KeepsRules
@@ -203,6 +229,7 @@ pub record KeepsRules
       × Rose before.failed_stores after.failed_stores)
   pub unopened :
       (kinds : List TileKind) (b : TreeAutomaton) (k : ℕ) → end ≡ Opens kinds b k → ⊥
+  pub unprinted : (text : List ℕ) → end ≡ Prints text → ⊥
   pub fetches : after.failed_fetches ≡ before.failed_fetches
   pub stores :
       ((file : List ℕ) → out ≡ Some file → ⊥) → after.failed_stores ≡ before.failed_stores
@@ -213,6 +240,28 @@ pub record KeepsRules
       IsTrue tells → (file : List ℕ) → out ≡ Some file
       → end ≡ Says (Accepted (length a.states) (length a.corners))
       → after.contents file ≡ Some (rules_text a)
+
+-- What the making of a log for two walks comes to.
+pub data IsLogged (kinds : List TileKind) (k : ℕ) (u w : List Letter) : End → Type 0 where
+  logged :
+      (log : List Change)
+      → ¬ PassFar kinds k u w
+      → All HasText log
+      → Lead kinds (k, 0) log u w
+      → IsLogged kinds k u w (Prints (log_text log))
+  logged_apart :
+      ¬ PassFar kinds k u w
+      → ¬ AreRelated kinds (k, 0) u w
+      → IsLogged kinds k u w (Says Apart)
+  logged_deep : PassFar kinds k u w → IsLogged kinds k u w (Says TooDeep)
+  logged_nothing : IsLogged kinds k u w Lacks
+
+-- What the verifying of a log for two walks comes to.
+pub data IsVerified
+    (kinds : List TileKind) (k : ℕ) (u w : List Letter) (log : List Change) : End → Type 0 where
+  verified :
+      (line : Line) → IsVerdict kinds k u w log line → IsVerified kinds k u w log (Says line)
+  verified_nothing : IsVerified kinds k u w log Lacks
 
 -- What the words of a call came to.
 pub data IsDecided

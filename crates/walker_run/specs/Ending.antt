@@ -11,7 +11,8 @@ use Rattle.walker_run.specs.declared.line.Line.{Line}
 use Rattle.walker_run.specs.Runs.{Outside, Run}
 use Rattle.walker_run.specs.Lines.{status_of, text_of}
 use Rattle.walker_run.specs.Serving.{OutputStands, LinesStand, RefusalStands, BeginningStands}
-use Rattle.walker_run.specs.Effects.{FilesSeen, TeacherSeen, End, Says, Opens, Lacks, IsDecided}
+use Rattle.walker_run.specs.Effects.{FilesSeen, TeacherSeen, End, Says, Opens, Prints, Lacks}
+use Rattle.walker_run.specs.Effects.{IsDecided}
 
 -- The line was appended, or a beginning of it, or nothing for want of memory.
 pub data SaysLine (takes : Bool) (line : Line) (taken taken' : List ℕ) (status : Status) :
@@ -28,6 +29,17 @@ pub data SaysLine (takes : Bool) (line : Line) (taken taken' : List ℕ) (status
       status ≡ WriteFault
       → (IsTrue takes → AppendsPrefix taken taken' (text_of line))
       → SaysLine takes line taken taken' status
+
+-- The text was appended, or a beginning of it.
+pub data PrintsText (takes : Bool) (text taken taken' : List ℕ) (status : Status) : Type 0 where
+  printed :
+      status ≡ Done
+      → (IsTrue takes → taken' ≡ taken ++ text)
+      → PrintsText takes text taken taken' status
+  unprinted :
+      status ≡ WriteFault
+      → (IsTrue takes → AppendsPrefix taken taken' text)
+      → PrintsText takes text taken taken' status
 
 -- The commands of a stream were answered, up to where its status says.
 pub data EndsStream
@@ -77,6 +89,9 @@ IsWritten run (Says line) =
 IsWritten run (Opens kinds a k) =
     EndsStream run.source_tells run.sink_tells (over_walks kinds a k)
     run.before.left run.after.left run.before.taken run.after.taken run.status
+IsWritten run (Prints text) =
+    PrintsText run.sink_tells text run.before.taken run.after.taken run.status
+    × (run.after.left ≡ run.before.left)
 IsWritten run Lacks =
     (run.status ≡ Memory)
     × (IsTrue run.sink_tells → run.after.taken ≡ run.before.taken)

@@ -1,8 +1,9 @@
--- What the files hold, where they tell it: a tessellation or rules, or the line that refuses
--- them.
-use Rattle.std.specs.Prelude.{◌≡◌, ℕ, ◌<◌, ◌≤◌, List, length, Option, Some}
+-- What the files hold, where they tell it: a tessellation, rules or a log, or the line that
+-- refuses them.
+use Rattle.std.specs.Prelude.{◌≡◌, ℕ, ◌<◌, ◌≤◌, List, length, Option, Some, All}
 use Rattle.tile_model.specs.Tessellations.{TileKind}
 use Rattle.tile_model.specs.Validity.{IsValid}
+use Rattle.tile_model.specs.Relation.{Change}
 use Rattle.tile_model.specs.declared.fault.KindFault.{KindFault}
 use Rattle.tree_model.specs.Automata.{TreeAutomaton}
 use Rattle.tree_model.specs.Conditions.{IsAccepted}
@@ -13,11 +14,13 @@ use Rattle.rules_file.specs.declared.fault.Part.{Part}
 use Rattle.rules_file.specs.Spelling.{IsTextOf, IsRulesFile}
 use Rattle.rules_file.specs.Faults.{IsFirstFault}
 use Rattle.structure_check.specs.Broken.{IsFirstBroken}
-use Rattle.walker_run.specs.declared.line.Role.TheVariants.{Tess, Rules}
+use Rattle.log_model.specs.LogTexts.{HasText, log_text, IsFirstBadLine as IsFirstBadLogLine}
+use Rattle.walker_run.specs.declared.load.TheConstants.{LOG_LIMIT}
+use Rattle.walker_run.specs.declared.line.Role.TheVariants.{Tess, Rules, Log}
 use Rattle.walker_run.specs.declared.line.Line.{Line}
 use Rattle.walker_run.specs.declared.line.Line.TheVariants.{FileTooLong, TessLine, TessKinds}
 use Rattle.walker_run.specs.declared.line.Line.TheVariants.{RulesSyntax, RulesShape, Broken}
-use Rattle.walker_run.specs.declared.line.Line.TheVariants.{Spherical, Closed, GaveUp}
+use Rattle.walker_run.specs.declared.line.Line.TheVariants.{Spherical, Closed, GaveUp, LogLine}
 use Rattle.call_words.specs.Tasks.{RulesFrom, FromFile, FromTeacher}
 use Rattle.regular_maker.specs.Regular.{IsRegular, IsInfinite, IsSpherical, p_of, q_of}
 use Rattle.regular_maker.specs.Automaton.{regular_automaton}
@@ -29,6 +32,10 @@ tess_limit = 1048576
 
 abbrev pub rules_limit : ℕ
 rules_limit = 134217728
+
+-- the greatest number of bytes of a log file
+abbrev pub log_limit : ℕ
+log_limit = LOG_LIMIT
 
 -- the file holds these bytes, and they are within its limit
 pub record Holds
@@ -114,6 +121,27 @@ pub data IsRules (contents : List ℕ → Option (List ℕ)) (kinds : List TileK
       → IsRulesFile bytes a
       → IsAccepted kinds a
       → IsRules contents kinds file (Loaded a)
+
+-- what a log file comes to
+pub data IsLog (contents : List ℕ → Option (List ℕ)) (file : List ℕ) :
+    Outcome (List Change) → Type 0 where
+  -- it is too long
+  log_too_long :
+      HoldsTooMany contents file log_limit
+      → IsLog contents file (Refused (FileTooLong Log))
+  -- line n is its first bad line
+  log_line :
+      (bytes : List ℕ) (n : ℕ)
+      → Holds contents file log_limit bytes
+      → IsFirstBadLogLine bytes n
+      → IsLog contents file (Refused (LogLine n))
+  -- it is the text of a log
+  log_loaded :
+      (bytes : List ℕ) (log : List Change)
+      → Holds contents file log_limit bytes
+      → All HasText log
+      → log_text log ≡ bytes
+      → IsLog contents file (Loaded log)
 
 -- What a teacher may have answered in a call, where one was asked and there was memory for the
 -- answer: rules, or the line that refuses them.

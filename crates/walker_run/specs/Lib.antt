@@ -8,4 +8,5 @@ pub mod Promise
 pub mod Effects
 pub mod Ending
 pub mod Laws
+pub mod LaterRuns
 pub mod Below

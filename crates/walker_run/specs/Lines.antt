@@ -17,13 +17,16 @@ use Rattle.walker_run.specs.declared.status.Status.TheVariants.{Spherical as Sph
 use Rattle.walker_run.specs.declared.status.Status.TheVariants.{Closed as ClosedStatus}
 use Rattle.walker_run.specs.declared.status.Status.TheVariants.{GaveUp as GaveUpStatus}
 use Rattle.walker_run.specs.declared.status.Status.TheVariants.{StoreFault as StoreFaultStatus}
-use Rattle.walker_run.specs.declared.line.Role.TheVariants.{Tess, Rules}
+use Rattle.walker_run.specs.declared.status.Status.TheVariants.{Apart as ApartStatus, LogRefused}
+use Rattle.walker_run.specs.declared.status.Status.TheVariants.{TooDeep as TooDeepStatus}
+use Rattle.walker_run.specs.declared.line.Role.TheVariants.{Tess, Rules, Log}
 use Rattle.walker_run.specs.declared.line.Line.{Line}
 use Rattle.walker_run.specs.declared.line.Line.TheVariants.{TypeTold, Accepted, Usage, FileFault}
 use Rattle.walker_run.specs.declared.line.Line.TheVariants.{FileTooLong, TessLine, TessKinds}
 use Rattle.walker_run.specs.declared.line.Line.TheVariants.{RulesSyntax, RulesShape, Broken}
 use Rattle.walker_run.specs.declared.line.Line.TheVariants.{Spherical, Closed, GaveUp, StoreFault}
-use Rattle.walker_run.specs.declared.line.Line.TheVariants.{InputTooLong}
+use Rattle.walker_run.specs.declared.line.Line.TheVariants.{InputTooLong, Related, Apart, TooDeep}
+use Rattle.walker_run.specs.declared.line.Line.TheVariants.{LogLine, LogChange, LogEnd}
 
 -- the exit status
 abbrev pub code_of : Status → ℕ
@@ -42,6 +45,9 @@ code_of ReadFault = 12
 code_of WriteFault = 13
 code_of StoreFaultStatus = 14
 code_of InputTooLongStatus = 15
+code_of ApartStatus = 16
+code_of LogRefused = 17
+code_of TooDeepStatus = 18
 
 -- The statuses of a refusal: it comes before any command is read.
 abbrev pub IsRefusal : Status → Type 0
@@ -85,6 +91,12 @@ status_of (Closed n) = ClosedStatus
 status_of (GaveUp cells) = GaveUpStatus
 status_of StoreFault = StoreFaultStatus
 status_of InputTooLong = InputTooLongStatus
+status_of Related = Done
+status_of Apart = ApartStatus
+status_of TooDeep = TooDeepStatus
+status_of (LogLine n) = LogRefused
+status_of (LogChange n) = LogRefused
+status_of LogEnd = LogRefused
 
 -- numbers, each behind a space, and a line feed
 abbrev pub numbers_text : List ℕ → List ℕ
@@ -121,8 +133,10 @@ text_of (Accepted states corners) = numbered (codes "accepted") (states ∷ corn
 text_of Usage = numbered (codes "usage") []
 text_of (FileFault Tess) = numbered (codes "file fault tess") []
 text_of (FileFault Rules) = numbered (codes "file fault rules") []
+text_of (FileFault Log) = numbered (codes "file fault log") []
 text_of (FileTooLong Tess) = numbered (codes "file too long tess") []
 text_of (FileTooLong Rules) = numbered (codes "file too long rules") []
+text_of (FileTooLong Log) = numbered (codes "file too long log") []
 text_of (TessLine n) = numbered (codes "tess line") (n ∷ [])
 text_of (TessKinds fault) = kind_fault_text fault
 text_of RulesSyntax = numbered (codes "rules syntax") []
@@ -133,3 +147,9 @@ text_of (Closed n) = numbered (codes "closed") (n ∷ [])
 text_of (GaveUp cells) = numbered (codes "gave up") (cells ∷ [])
 text_of StoreFault = numbered (codes "store fault") []
 text_of InputTooLong = numbered (codes "input too long") []
+text_of Related = numbered (codes "related") []
+text_of Apart = numbered (codes "apart") []
+text_of TooDeep = numbered (codes "deep") []
+text_of (LogLine n) = numbered (codes "log line") (n ∷ [])
+text_of (LogChange n) = numbered (codes "log change") (n ∷ [])
+text_of LogEnd = numbered (codes "log end") []

@@ -8,13 +8,14 @@ use Rattle.line_server.specs.Lines.{most_of_stream}
 use Rattle.line_server.specs.Endings.{GivesInOrder, TakesMore, IsBegun}
 use Rattle.way_io.specs.Counts.{Rose}
 use Rattle.way_io.specs.Contents.{KeepsAll}
-use Rattle.call_words.specs.Tasks.{Task, Ask, HaveNoForm, AreNotOfRun, IsOut}
+use Rattle.call_words.specs.Tasks.{Task, Ask, HaveNoForm, AreNotOfRun, AreNotOfLog, IsOut}
 use Rattle.walker_run.specs.declared.status.Status.{Status}
 use Rattle.walker_run.specs.declared.status.Status.TheVariants.{Done, Usage, FileFault, FileTooLong}
 use Rattle.walker_run.specs.declared.status.Status.TheVariants.{TessRefused, RulesText, NotAccepted}
 use Rattle.walker_run.specs.declared.status.Status.TheVariants.{Memory, ReadFault, WriteFault}
 use Rattle.walker_run.specs.declared.status.Status.TheVariants.{InputTooLong, Spherical, StoreFault}
 use Rattle.walker_run.specs.declared.status.Status.TheVariants.{Closed, GaveUp}
+use Rattle.walker_run.specs.declared.status.Status.TheVariants.{Apart, LogRefused, TooDeep}
 use Rattle.walker_run.specs.declared.line.Role.{Role}
 use Rattle.walker_run.specs.declared.line.Line.{Line}
 use Rattle.walker_run.specs.declared.line.Line.TheVariants.{Accepted, Usage as UsageLine}
@@ -26,7 +27,7 @@ use Rattle.walker_run.specs.Held.{Lesson}
 use Rattle.walker_run.specs.Runs.{Run, call_of}
 use Rattle.walker_run.specs.Lines.{IsOutside, MayStore, text_of}
 use Rattle.walker_run.specs.Due.{IsDue, Serves, ServesSome, Fetches, Stores, MaySay}
-use Rattle.walker_run.specs.Due.{IsToMake, MakesFor, StoresAs}
+use Rattle.walker_run.specs.Due.{IsToMake, MakesFor, StoresAs, Logs, LogsText}
 use Rattle.walker_run.specs.Outcome.{Writes, WritesBeginning, WritesNothing, GivesAtOnce}
 use Rattle.walker_run.specs.Outcome.{ComesExactly, MergesFiles, IsClosedFor, IsGivenUpFor}
 use Rattle.walker_run.specs.Serving.{OutputStands, LinesStand, RefusalStands, BeginningStands}
@@ -64,6 +65,20 @@ pub record BeginsLine (run : Run) (lesson : Lesson) (line : Line) : Type 0 where
   pub closed : (n : ℕ) → line ≡ ClosedLine n → IsClosedIn run n
   pub gave_up : (n : ℕ) → line ≡ GaveUpLine n → IsGivenUpIn run n
   pub written : WritesBeginning run (text_of line)
+
+-- The beginning was written of the text of a log. The words are of the form `log`, and where the
+-- files tell the log leads from U to W.
+pub record BeginsLog (run : Run) (lesson : Lesson) : Type 0 where
+  pub text : List ℕ
+  pub asked : ¬ AreNotOfLog run.words
+  pub logs : IsTrue run.files_tell → LogsText (call_of run lesson) text
+  pub written : WritesBeginning run text
+
+-- Exactly the text of a log was written that leads from U to W.
+pub record TellsLog (run : Run) (lesson : Lesson) : Type 0 where
+  pub text : List ℕ
+  pub logs : LogsText (call_of run lesson) text
+  pub written : Writes run text
 
 -- What becomes of the commands of the input, in a run that serves walkers over this automaton, in
 -- the tree of this kind.
@@ -131,9 +146,11 @@ pub record TellsReadFault (run : Run) (lesson : Lesson) : Type 0 where
   pub serving : IsServing run lesson
   pub counted : Rose run.before.failed_reads run.after.failed_reads
 
--- A write failed, which was counted: of a line, or while walkers were served.
+-- A write failed, which was counted: of a line, while walkers were served, or of a log.
 pub record TellsWriteFault (run : Run) (lesson : Lesson) : Type 0 where
-  pub begun : ((line : Line) × BeginsLine run lesson line) ⊎ IsServing run lesson
+  pub begun :
+      ((line : Line) × BeginsLine run lesson line)
+      ⊎ (IsServing run lesson ⊎ BeginsLog run lesson)
   pub counted : Rose run.before.failed_writes run.after.failed_writes
 
 -- One automaton is made for the task: the regular one or what the teacher answered, or what is left
@@ -163,18 +180,32 @@ pub record TellsGiveUp (run : Run) : Type 0 where
 
 -- The table is followed: where each status comes, and with which line.
 pub record FollowsTable (run : Run) (lesson : Lesson) : Type 0 where
-  -- The statuses of lines that are due. Done comes so unless the run serves walkers.
-  pub done : IsTrue run.files_tell → ServesSome (call_of run lesson) ⊎ ComesExactly run lesson Done
+  -- The statuses of lines that are due. Done comes so unless the run serves walkers or writes a log.
+  pub done :
+      IsTrue run.files_tell
+      → ServesSome (call_of run lesson)
+      ⊎ (Logs (call_of run lesson) ⊎ ComesExactly run lesson Done)
   pub usage : IsTrue run.files_tell → ComesExactly run lesson Usage
   pub file_too_long : IsTrue run.files_tell → ComesExactly run lesson FileTooLong
   pub tess_refused : IsTrue run.files_tell → ComesExactly run lesson TessRefused
   pub rules_text : IsTrue run.files_tell → ComesExactly run lesson RulesText
   pub not_accepted : IsTrue run.files_tell → ComesExactly run lesson NotAccepted
   pub spherical : IsTrue run.files_tell → ComesExactly run lesson Spherical
+  pub apart : IsTrue run.files_tell → ComesExactly run lesson Apart
+  pub log_refused : IsTrue run.files_tell → ComesExactly run lesson LogRefused
+  pub too_deep : IsTrue run.files_tell → ComesExactly run lesson TooDeep
   -- Rules that can be merged are merged, unless the outside or memory fails; `made` says how.
   pub merges :
       IsTrue run.files_tell → MergesFiles (call_of run lesson)
       → (run.status ≡ Done) ⊎ IsOutside run.status
+  -- Where walks are related and neither passes too far, a log is written, unless the outside or
+  -- memory fails; `logged` says how.
+  pub logs :
+      IsTrue run.files_tell → Logs (call_of run lesson)
+      → (run.status ≡ Done) ⊎ IsOutside run.status
+  -- Done of the form `log`.
+  pub logged :
+      IsTrue run.files_tell → ¬ AreNotOfLog run.words → run.status ≡ Done → TellsLog run lesson
   -- Done of the forms that make rules.
   pub made :
       IsTrue run.files_tell → (task : Task) → Ask run.words task → IsToMake task

@@ -2,7 +2,8 @@
 //! gathers theirs.
 ghost use Rattle.walker_run.specs.Below.{LawsBelow};
 
-/// A tessellation file and a rules file come to one outcome each, and words to one task.
+/// A tessellation file, a rules file and a log file come to one outcome each, and words to one task.
+/// A log leads to one walk, or one of its changes is the first that is refused.
 pub fn laws_below()
     ensures { LawsBelow }
 {
@@ -11,4 +12,6 @@ pub fn laws_below()
     rules_file::first_fault_law();
     structure_check::laws::first_broken_law();
     call_words::laws::asked_law();
+    log_model::laws::text_laws();
+    log_model::laws::log_laws();
 }

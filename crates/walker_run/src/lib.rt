@@ -7,6 +7,7 @@ pub mod laws;
 mod learn;
 mod line;
 mod load;
+mod logs;
 mod merging;
 mod say;
 mod serve;

@@ -15,6 +15,7 @@ use tile_kinds::{DartType, KindFault};
 pub enum Role {
     Tess,
     Rules,
+    Log,
 }
 
 /// A line that the program says: what is due to the words and the files, or why it is not said.
@@ -51,6 +52,18 @@ pub enum Line {
     StoreFault,
     /// The input has over 268,435,456 bytes.
     InputTooLong,
+    /// The log leads from the one walk to the other, so that they are related.
+    Related,
+    /// The two walks are not related.
+    Apart,
+    /// One of the two walks passes a tile that lies too far from the first one.
+    TooDeep,
+    /// The first bad line of the log file, counted from 1.
+    LogLine(u64),
+    /// The first change of the log that is not allowed, counted from 1.
+    LogChange(u64),
+    /// All changes of the log are allowed, and lead to another walk.
+    LogEnd,
 }
 
 impl Line {
@@ -59,7 +72,7 @@ impl Line {
         ensures { result ≡ status_of self.now }
     {
         match self {
-            Line::TypeTold(_) | Line::Accepted { .. } => Status::Done,
+            Line::TypeTold(_) | Line::Accepted { .. } | Line::Related => Status::Done,
             Line::Usage => Status::Usage,
             Line::FileFault(_) => Status::FileFault,
             Line::FileTooLong(_) => Status::FileTooLong,
@@ -71,6 +84,9 @@ impl Line {
             Line::GaveUp(_) => Status::GaveUp,
             Line::StoreFault => Status::StoreFault,
             Line::InputTooLong => Status::InputTooLong,
+            Line::Apart => Status::Apart,
+            Line::TooDeep => Status::TooDeep,
+            Line::LogLine(_) | Line::LogChange(_) | Line::LogEnd => Status::LogRefused,
         }
     }
 
@@ -84,38 +100,54 @@ impl Line {
     {
         match self {
             Line::TypeTold(t) => {
-                print_line(alloc, "type", &[u32::from(t.kind), u32::from(t.residue)])
+                print_line(alloc, "type", &[u64::from(t.kind), u64::from(t.residue)])
             }
-            Line::Accepted { states, corners } => {
-                print_line(alloc, "accepted", &[*states, *corners])
-            }
+            Line::Accepted { states, corners } => print_line(
+                alloc,
+                "accepted",
+                &[u64::from(*states), u64::from(*corners)],
+            ),
             Line::Usage => print_line(alloc, "usage", &[]),
             Line::FileFault(Role::Tess) => print_line(alloc, "file fault tess", &[]),
             Line::FileFault(Role::Rules) => print_line(alloc, "file fault rules", &[]),
+            Line::FileFault(Role::Log) => print_line(alloc, "file fault log", &[]),
             Line::FileTooLong(Role::Tess) => print_line(alloc, "file too long tess", &[]),
             Line::FileTooLong(Role::Rules) => print_line(alloc, "file too long rules", &[]),
-            Line::TessLine(n) => print_line(alloc, "tess line", &[*n]),
+            Line::FileTooLong(Role::Log) => print_line(alloc, "file too long log", &[]),
+            Line::TessLine(n) => print_line(alloc, "tess line", &[u64::from(*n)]),
             Line::TessKinds(fault) => print_kind_fault(alloc, *fault),
             Line::RulesSyntax => print_line(alloc, "rules syntax", &[]),
-            Line::RulesShape { part, index } => print_line(alloc, shape_words(*part), &[*index]),
+            Line::RulesShape { part, index } => {
+                print_line(alloc, shape_words(*part), &[u64::from(*index)])
+            }
             Line::Broken(at) => print_line(
                 alloc,
                 "broken",
-                &[u32::from(at.condition), at.first, u32::from(at.second)],
+                &[
+                    u64::from(at.condition),
+                    u64::from(at.first),
+                    u64::from(at.second),
+                ],
             ),
             Line::Spherical { p, q } => {
-                print_line(alloc, "spherical", &[u32::from(*p), u32::from(*q)])
+                print_line(alloc, "spherical", &[u64::from(*p), u64::from(*q)])
             }
-            Line::Closed(n) => print_line(alloc, "closed", &[*n]),
-            Line::GaveUp(cells) => print_line(alloc, "gave up", &[*cells]),
+            Line::Closed(n) => print_line(alloc, "closed", &[u64::from(*n)]),
+            Line::GaveUp(cells) => print_line(alloc, "gave up", &[u64::from(*cells)]),
             Line::StoreFault => print_line(alloc, "store fault", &[]),
             Line::InputTooLong => print_line(alloc, "input too long", &[]),
+            Line::Related => print_line(alloc, "related", &[]),
+            Line::Apart => print_line(alloc, "apart", &[]),
+            Line::TooDeep => print_line(alloc, "deep", &[]),
+            Line::LogLine(n) => print_line(alloc, "log line", &[*n]),
+            Line::LogChange(n) => print_line(alloc, "log change", &[*n]),
+            Line::LogEnd => print_line(alloc, "log end", &[]),
         }
     }
 }
 
 /// A text, then each number behind a space, then a line feed.
-fn print_line(alloc: Global, text: &str, numbers: &[u32]) -> Result<Vec<u8>, AllocError>
+fn print_line(alloc: Global, text: &str, numbers: &[u64]) -> Result<Vec<u8>, AllocError>
     ensures { IfOk result (λ line. line.items ≡ numbered text.now numbers.now) }
 {
     let mut line = Vec::from_slice(alloc, text.as_bytes())?;
@@ -142,7 +174,7 @@ fn print_kind_fault(alloc: Global, fault: KindFault) -> Result<Vec<u8>, AllocErr
         KindFault::Involution { kind, residue } => ("tess involution", kind, residue),
         KindFault::Corner { kind, residue } => ("tess corner", kind, residue),
     };
-    print_line(alloc, text, &[u32::from(kind), u32::from(residue)])
+    print_line(alloc, text, &[u64::from(kind), u64::from(residue)])
 }
 
 /// `rules shape` and the name of the part.

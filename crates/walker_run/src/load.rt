@@ -4,12 +4,14 @@ ghost use Rattle.tile_model.specs.Validity.{IsValid};
 ghost use Rattle.tree_model.specs.Conditions.{IsAccepted};
 ghost use Rattle.call_words.specs.Tasks.{AreCells};
 ghost use Rattle.walker_run.specs.Held.{Loaded, Refused, Holds, HoldsTooMany, IsTess, IsRules};
-ghost use Rattle.walker_run.specs.Held.{IsMade};
+ghost use Rattle.walker_run.specs.Held.{IsMade, IsLog};
 ghost use Rattle.walker_run.specs.Effects.{files_seen, teacher_seen, line_of, lesson_of};
 ghost use Rattle.walker_run.specs.Effects.{OnlyFetches, IsRefusedBy, IsNoKind};
 
 use crate::line::{Line, Role};
 use crate::stop::Stop;
+use log_model::Change;
+use log_text::{LogTextFault, read_log};
 use rules_file::{RulesFault, read_rules};
 use state_learner::{LearnFault, Teacher};
 use std::alloc::Global;
@@ -23,6 +25,9 @@ pub const TESS_LIMIT: u32 = 1_048_576;
 
 /// The greatest number of bytes of a rules file.
 pub const RULES_LIMIT: u32 = 134_217_728;
+
+/// The greatest number of bytes of a log file.
+pub const LOG_LIMIT: u32 = 33_554_432;
 
 /// The bytes of a file of at most `limit` bytes.
 fn fetch<F: Files>(
@@ -128,6 +133,25 @@ pub fn load_rules<F: Files>(
     match check(tess, automaton) {
         Ok(rules) => Ok(rules),
         Err((_, _, broken)) => Err(Stop::Say(Line::Broken(broken))),
+    }
+}
+
+/// The log that a file holds.
+pub fn load_log<F: Files>(alloc: Global, files: &mut F, name: &str) -> Result<Vec<Change>, Stop>
+    ensures ok { IsTrue F.tells
+        → IfOk result (λ log. IsLog (F.contents files.old) name.now (Loaded log.items)) }
+    ensures refused { IsTrue F.tells → (line : Line) → result ≡ Err (Stop.Say line)
+        → (line ≡ Line.FileFault Role.Log)
+        ⊎ IsLog (F.contents files.old) name.now (Refused line) }
+    ensures effects { OnlyFetches F.tells
+        (files_seen F.contents F.fetch_faults F.store_faults files.old)
+        (files_seen F.contents F.fetch_faults F.store_faults files.new) (line_of result) }
+{
+    let bytes = fetch(alloc, files, Role::Log, name, LOG_LIMIT)?;
+    match read_log(alloc, &bytes) {
+        Ok(log) => Ok(log),
+        Err(LogTextFault::Line(line)) => Err(Stop::Say(Line::LogLine(line))),
+        Err(LogTextFault::Memory) => Err(Stop::Memory),
     }
 }
 

@@ -35,6 +35,12 @@ pub enum Status {
     StoreFault,
     /// The input has over 268,435,456 bytes.
     InputTooLong,
+    /// The two walks are not related: no log leads from the one to the other.
+    Apart,
+    /// The log file holds no log, or one that does not lead from the one walk to the other.
+    LogRefused,
+    /// One of the two walks passes a tile that lies more than 4,000 crossings from the first one.
+    TooDeep,
 }
 
 impl Status {
@@ -58,6 +64,9 @@ impl Status {
             Status::WriteFault => 13,
             Status::StoreFault => 14,
             Status::InputTooLong => 15,
+            Status::Apart => 16,
+            Status::LogRefused => 17,
+            Status::TooDeep => 18,
         }
     }
 }

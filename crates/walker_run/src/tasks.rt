@@ -11,6 +11,7 @@ ghost use Rattle.walker_run.specs.Effects.{IsCarriedOut, IsDecided};
 use crate::learn::learn;
 use crate::line::Line;
 use crate::load::{learn_rules, load_kind, load_rules, load_tess};
+use crate::logs::{verify_log, write_log};
 use crate::merging::merge_rules;
 use crate::stop::Stop;
 use call_words::laws::asked_law;
@@ -28,6 +29,8 @@ pub enum Work {
     Say(Line),
     /// To answer the commands of the input over rules, in the tree of a kind.
     Serve { rules: Rules, kind: u8 },
+    /// To write a text.
+    Write(Vec<u8>),
 }
 
 /// The line that tells how many states and corner types rules have.
@@ -175,6 +178,20 @@ fn carry_out<F: Files, T: Teacher>(
         }
         Form::Learn { tess, cells, out } => learn(alloc, files, teacher, tess, *cells, *out),
         Form::Merge { tess, rules, out } => merge_rules(alloc, files, tess, rules, out),
+        Form::Log {
+            tess,
+            rules,
+            kind,
+            u,
+            w,
+        } => write_log(alloc, files, tess, rules, *kind, u, w),
+        Form::Verify {
+            tess,
+            kind,
+            u,
+            w,
+            log,
+        } => verify_log(alloc, files, tess, *kind, u, w, log),
     }
 }
 

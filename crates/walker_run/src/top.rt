@@ -12,7 +12,7 @@ ghost use Rattle.walker_run.specs.Ending.{Ends};
 
 use crate::below::laws_below;
 use crate::line::Line;
-use crate::say::say;
+use crate::say::{say, write_text};
 use crate::serve::serve_walkers;
 use crate::status::Status;
 use crate::stop::Stop;
@@ -113,6 +113,7 @@ fn carry_through<F: Files, I: Source, O: Sink, T: Teacher>(
     match decide(alloc, words, files, teacher) {
         Ok(Work::Say(line)) => say(alloc, &line, out),
         Ok(Work::Serve { rules, kind }) => serve_walkers(alloc, &rules, kind, input, out),
+        Ok(Work::Write(text)) => write_text(&text, out),
         Err(Stop::Say(line)) => say(alloc, &line, out),
         Err(Stop::Memory) => Status::Memory,
     }

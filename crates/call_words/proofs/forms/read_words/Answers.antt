@@ -65,3 +65,11 @@ returns-in-Some-read_learn-clause-complete c = λ task ask.
 pub returns-in-Some-read_merge-clause-complete : goal.returns-in-Some-read_merge-clause-complete
 returns-in-Some-read_merge-clause-complete c = λ task ask.
     one_task _ (task_of c.in-Some-read_merge.form) task c.in-Some-read_merge.ensures.some ask
+
+pub returns-in-Ok-read_log-clause-complete : goal.returns-in-Ok-read_log-clause-complete
+returns-in-Ok-read_log-clause-complete c = λ task ask.
+    one_task _ (task_of c.in-Ok-read_log.form) task c.in-Ok-read_log.ensures.ok ask
+
+pub returns-in-Ok-read_verify-clause-complete : goal.returns-in-Ok-read_verify-clause-complete
+returns-in-Ok-read_verify-clause-complete c = λ task ask.
+    one_task _ (task_of c.in-Ok-read_verify.form) task c.in-Ok-read_verify.ensures.ok ask

@@ -13,4 +13,10 @@ returns c = record {
   not_broken = c.first_broken_law.ensures.refuted;
   one_broken = c.first_broken_law.ensures.one;
   one_task = c.asked_law.ensures.one;
+  one_log = c.text_laws.ensures.one_log;
+  no_log = c.text_laws.ensures.no_log;
+  one_log_line = c.text_laws.ensures.one_line;
+  one_walk = c.log_laws.ensures.logs;
+  leads_nowhere = c.log_laws.ensures.nowhere;
+  one_refused = c.log_laws.ensures.one;
 }

@@ -1,4 +1,4 @@
-use Rattle.walker_run.proofs.Unique.{one_line, one_session, never_both}
+use Rattle.walker_run.proofs.Unique.{one_line, one_session, never_both, never_a_log}
 use Rattle.walker_run.proofs.laws.table.Goals as goal
 
 pub returns-clause-one_line : goal.returns-clause-one_line
@@ -9,3 +9,6 @@ returns-clause-one_session c = one_session c.laws_below.ensures
 
 pub returns-clause-never_both : goal.returns-clause-never_both
 returns-clause-never_both c = never_both c.laws_below.ensures
+
+pub returns-clause-never_a_log : goal.returns-clause-never_a_log
+returns-clause-never_a_log c = never_a_log c.laws_below.ensures

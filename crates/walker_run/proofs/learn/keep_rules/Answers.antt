@@ -9,6 +9,7 @@ returns-in-Err-Failed g c =
     record {
       told = λ line is. inr ((c.in-Value.name.now, named), cc is, rose);
       unopened = λ kinds b k is. cc is;
+      unprinted = λ text is. cc is;
       fetches = c.in-Err-Failed.ensures.fetches;
       stores = λ none. absurd (none c.in-Value.name.now named);
       others = λ told file other. c.in-Err-Failed.ensures.others told file (λ same. other (cc (named, same)));
