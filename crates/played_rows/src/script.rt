@@ -26,30 +26,52 @@ pub(crate) fn play<F: Files>(
         return tell(said, "no text\n");
     };
     for line in text.split('\n') {
-        let (word, rest) = halves(line, " ");
-        match word {
-            "" => {}
-            "#" => tell_line(said, line)?,
-            "have" => have(alloc, disk, rest, stage)?,
-            "call"
+        play_line(alloc, disk, line, stage, said)?;
+    }
+    Ok(())
+}
+
+// Whether a line with this word is a call.
+fn is_call(word: &str) -> bool {
+    matches!(
+        word,
+        "call"
             | "sweep_reads"
             | "sweep_writes"
             | "beginnings"
             | "meetings"
             | "changes"
             | "slow_walks"
-            | "unread_words" => {
-                tell_line(said, line)?;
-                act(stage, word, rest, said)?;
-                stage.next = Next::new(alloc);
-            }
-            _ => {
-                if !set(alloc, stage, word, rest)? {
-                    tell(said, "no such word\n")?;
-                    tell_line(said, line)?;
-                }
-            }
-        }
+            | "unread_words"
+    )
+}
+
+fn play_line<F: Files>(
+    alloc: Global,
+    disk: &mut F,
+    line: &str,
+    stage: &mut Stage,
+    said: &mut Vec<u8>,
+) -> Result<(), AllocError> {
+    let (word, rest) = halves(line, " ");
+    if word.is_empty() {
+        return Ok(());
+    }
+    if word == "#" {
+        return tell_line(said, line);
+    }
+    if word == "have" {
+        return have(alloc, disk, rest, stage);
+    }
+    if is_call(word) {
+        tell_line(said, line)?;
+        act(stage, word, rest, said)?;
+        stage.next = Next::new(alloc);
+        return Ok(());
+    }
+    if !set(alloc, stage, word, rest)? {
+        tell(said, "no such word\n")?;
+        tell_line(said, line)?;
     }
     Ok(())
 }
@@ -88,37 +110,83 @@ fn act(stage: &mut Stage, word: &str, rest: &str, said: &mut Vec<u8>) -> Result<
 
 // Sets something for the next call, and answers whether the word says what.
 fn set(alloc: Global, stage: &mut Stage, word: &str, rest: &str) -> Result<bool, AllocError> {
-    let next = &mut stage.next;
+    if set_number(&mut stage.next, word, number(rest)) {
+        return Ok(true);
+    }
+    if set_numbers(alloc, &mut stage.next, word, rest)? {
+        return Ok(true);
+    }
+    if set_text(&mut stage.next, word, rest)? {
+        return Ok(true);
+    }
+    if set_name(alloc, &mut stage.next, word, rest)? {
+        return Ok(true);
+    }
+    set_file(alloc, stage, word, rest)
+}
+
+fn set_number(next: &mut Next, word: &str, count: u32) -> bool {
+    match word {
+        "flood" => next.flood = count,
+        "room" => next.room = count,
+        "piece" => next.piece = count,
+        _ => return false,
+    }
+    true
+}
+
+fn set_numbers(alloc: Global, next: &mut Next, word: &str, rest: &str) -> Result<bool, AllocError> {
+    let counts = numbers(alloc, rest)?;
+    match word {
+        "steps" => next.steps = counts,
+        "failing_files" => next.failing_files = counts,
+        "failing_reads" => next.failing_reads = counts,
+        "failing_writes" => next.failing_writes = counts,
+        _ => return Ok(false),
+    }
+    Ok(true)
+}
+
+// Adds to what the next call reads, or to the letters of its words.
+fn set_text(next: &mut Next, word: &str, rest: &str) -> Result<bool, AllocError> {
     match word {
         "<" => {
             add_text(&mut next.input, rest)?;
             next.input.push(b'\n')?;
         }
         "input" => add_text(&mut next.input, rest)?,
-        "times" => {
-            let (count, text) = halves(rest, " ");
-            for _ in 0..number(count) {
-                add_text(&mut next.input, text)?;
-            }
-        }
-        "flood" => next.flood = number(rest),
-        "steps" => next.steps = numbers(alloc, rest)?,
-        "room" => next.room = number(rest),
-        "piece" => next.piece = number(rest),
-        "failing_files" => next.failing_files = numbers(alloc, rest)?,
-        "failing_reads" => next.failing_reads = numbers(alloc, rest)?,
-        "failing_writes" => next.failing_writes = numbers(alloc, rest)?,
-        "show" => next.shown.push(String::from_str(alloc, rest)?)?,
-        "find" => next.found.push(String::from_str(alloc, rest)?)?,
-        "keep" => next.stored.push(String::from_str(alloc, rest)?)?,
-        "writes" => next.written.push(String::from_str(alloc, rest)?)?,
-        "letters" => {
-            let (count, text) = halves(rest, " ");
-            for _ in 0..number(count) {
-                next.letters.push_str(text)?;
-            }
-        }
-        _ => return set_file(alloc, stage, word, rest),
+        "times" => add_times(&mut next.input, rest)?,
+        "letters" => add_letters(&mut next.letters, rest)?,
+        _ => return Ok(false),
+    }
+    Ok(true)
+}
+
+// A text, as often as the number in front of it says.
+fn add_times(input: &mut Vec<u8>, rest: &str) -> Result<(), AllocError> {
+    let (count, text) = halves(rest, " ");
+    for _ in 0..number(count) {
+        add_text(input, text)?;
+    }
+    Ok(())
+}
+
+fn add_letters(letters: &mut String, rest: &str) -> Result<(), AllocError> {
+    let (count, text) = halves(rest, " ");
+    for _ in 0..number(count) {
+        letters.push_str(text)?;
+    }
+    Ok(())
+}
+
+fn set_name(alloc: Global, next: &mut Next, word: &str, rest: &str) -> Result<bool, AllocError> {
+    let name = String::from_str(alloc, rest)?;
+    match word {
+        "show" => next.shown.push(name)?,
+        "find" => next.found.push(name)?,
+        "keep" => next.stored.push(name)?,
+        "writes" => next.written.push(name)?,
+        _ => return Ok(false),
     }
     Ok(true)
 }

@@ -318,6 +318,7 @@ module _ (run : Run) (lesson : Lesson) where
     store_counted = λ is_fault. known.unwritten (ap Says is_fault);
     closed = λ n is_closed. known.closed n (ap Says is_closed);
     gave_up = λ n is_gave. known.gave_up n (ap Says is_gave);
+    short = λ is_long. known.short (ap Says is_long);
     written = part;
   }
 

@@ -23,6 +23,7 @@ use Rattle.walker_run.specs.declared.line.Line.TheVariants.{FileFault as FileFau
 use Rattle.walker_run.specs.declared.line.Line.TheVariants.{StoreFault as StoreFaultLine}
 use Rattle.walker_run.specs.declared.line.Line.TheVariants.{Closed as ClosedLine}
 use Rattle.walker_run.specs.declared.line.Line.TheVariants.{GaveUp as GaveUpLine}
+use Rattle.walker_run.specs.declared.line.Line.TheVariants.{InputTooLong as InputTooLongLine}
 use Rattle.walker_run.specs.Held.{Lesson}
 use Rattle.walker_run.specs.Runs.{Run, call_of}
 use Rattle.walker_run.specs.Lines.{IsOutside, MayStore, text_of}
@@ -54,7 +55,8 @@ pub record IsGivenUpIn (run : Run) (cells : ℕ) : Type 0 where
 
 -- The beginning was written of a line that the run may say.
 -- That a file could not be read is begun only where a fetch failed, that one could not be written
--- only where a store failed, and that the teacher gave up only where it counted it.
+-- only where a store failed, and that the teacher gave up only where it counted it; that the input
+-- is too long nowhere here, since it is said of a stream.
 pub record BeginsLine (run : Run) (lesson : Lesson) (line : Line) : Type 0 where
   pub may : IsTrue run.files_tell → MaySay (call_of run lesson) line
   pub counted :
@@ -64,6 +66,7 @@ pub record BeginsLine (run : Run) (lesson : Lesson) (line : Line) : Type 0 where
       line ≡ StoreFaultLine → Rose run.before.failed_stores run.after.failed_stores
   pub closed : (n : ℕ) → line ≡ ClosedLine n → IsClosedIn run n
   pub gave_up : (n : ℕ) → line ≡ GaveUpLine n → IsGivenUpIn run n
+  pub short : line ≡ InputTooLongLine → ⊥
   pub written : WritesBeginning run (text_of line)
 
 -- The beginning was written of the text of a log. The words are of the form `log`, and where the
@@ -246,7 +249,8 @@ pub record KeepsOutside (run : Run) (lesson : Lesson) : Type 0 where
   pub contents :
       IsTrue run.files_tell → (MayStore run.status → ⊥)
       → KeepsAll run.before.contents run.after.contents
-  -- That one too where no rules are made.
+  -- That one too where the table has no rules for the call. Where it has, that the file is left
+  -- alone until they are made is seen in the code.
   pub unmade :
       IsTrue run.files_tell → (Stores (call_of run lesson) → ⊥)
       → KeepsAll run.before.contents run.after.contents
@@ -276,7 +280,7 @@ pub record KeepsPromise (run : Run) : Type 0 where
   -- alone.
   pub lesson : Lesson
   -- With rules from a file this holds of each automaton that the file spells, for a regular
-  -- tessellation of the one that is made for it, and else of the one that the teacher answered.
+  -- tessellation of the one that is made for it, and else of the one of the lesson.
   pub stream :
       IsTrue run.files_tell → IsTrue run.source_tells
       → (kinds : List TileKind) (a : TreeAutomaton) (k : ℕ)

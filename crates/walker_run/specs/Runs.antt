@@ -4,8 +4,9 @@ use Rattle.state_learner.specs.GiveUps.{GiveUp}
 use Rattle.walker_run.specs.declared.status.Status.{Status}
 use Rattle.walker_run.specs.Held.{Lesson}
 
--- A call of the program: its words, what each file holds before it, and what the teacher answers.
--- These alone decide what is due to it.
+-- A call of the program: its words, what each file holds before it, and an answer that a teacher may
+-- give. These alone decide what is due to it. That the answer is the one of this run's teacher is seen
+-- in the code alone.
 pub record Call : Type 0 where
   pub words : List (List ℕ)
   pub contents : List ℕ → Option (List ℕ)

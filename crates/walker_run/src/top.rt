@@ -22,10 +22,11 @@ use std::alloc::Global;
 use way_io::{Files, Sink, Source};
 
 /// Does what the words ask for, writes to `out`, and tells how it ended. Words of the form `run`
-/// ask for the replies to the commands of `input`; all others for one line. Words of the form
-/// `learn` may name a file in which rules are stored, before the line is written; no other file
-/// changes. `teacher` is asked once where rules are to be learnt: by `learn`, and by `run` where no
-/// rules file is named, with the cells that the words name, or 50,000.
+/// ask for the replies to the commands of `input`, words of the form `log` for the text of a log;
+/// all others for one line. Words of the form `learn` may, and those of `merge` do, name a file in
+/// which rules are stored, before the line is written; no other file changes. `teacher` is asked
+/// once where rules are to be learnt: by `learn`, and by `run` where no rules file is named, with
+/// the cells that the words name, or 50,000.
 ///
 /// What the replies mean is a law over replies alone (`reply_laws::laws::names`): the names that
 /// two commands `at` are answered are equal exactly where the walks of their walkers are at the
