@@ -136,12 +136,24 @@ impl Stage {
     /// A call as it stands, with each step of the source: all come to the same, and leave the same
     /// files, of which those that are asked for are told.
     pub(crate) fn play(&mut self, words: &str, said: &mut Vec<u8>) -> Result<(), AllocError> {
-        let mut files = self.files()?;
-        let out = self.sink(&self.next.failing_writes)?;
-        let reads = &self.next.failing_reads;
         let words = self.words(words)?;
-        let words = words.as_str();
-        let first = self.outcome(words, &mut files, out, self.first_step(), reads)?;
+        let mut files = self.files()?;
+        let written = self.play_steps(words.as_str(), &mut files, said)?;
+        self.tell_files(&files, said)?;
+        self.store(&files)?;
+        self.keep_written(&written)
+    }
+
+    // The call with each step of the source, and what it writes with the first one.
+    fn play_steps(
+        &self,
+        words: &str,
+        files: &mut MemFiles,
+        said: &mut Vec<u8>,
+    ) -> Result<Vec<u8>, AllocError> {
+        let reads = &self.next.failing_reads;
+        let out = self.sink(&self.next.failing_writes)?;
+        let first = self.outcome(words, files, out, self.first_step(), reads)?;
         self.tell_outcome(&first, said)?;
         for step in &self.next.steps {
             let out = self.sink(&self.next.failing_writes)?;
@@ -153,12 +165,15 @@ impl Stage {
                 )?;
             }
         }
-        self.tell_files(&files, said)?;
-        self.store(&files)?;
+        Ok(first.written)
+    }
+
+    // What was written, for further calls to find.
+    fn keep_written(&mut self, bytes: &[u8]) -> Result<(), AllocError> {
         for name in &self.next.written {
             self.kept.push(Held {
                 name: name.clone()?,
-                bytes: first.written.clone()?,
+                bytes: bytes.to_vec(self.alloc)?,
             })?;
         }
         Ok(())
