@@ -10,3 +10,5 @@ pub mod Growing
 pub mod Told
 pub mod Keeping
 pub mod Stable
+pub mod Rowed
+pub mod Roomy
