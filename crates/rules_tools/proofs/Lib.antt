@@ -12,3 +12,4 @@ pub mod Keeping
 pub mod Stable
 pub mod Rowed
 pub mod Roomy
+pub mod Cutting

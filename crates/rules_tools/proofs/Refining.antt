@@ -45,14 +45,14 @@ by_key_few a before class count keys = go count refl
     go (suc n) e = let (s, ls, q) = keys.used n (omega (arith, e)) in omega (arith, most n s ls q, ls)
 
 module _ (kinds : List TileKind) (a : TreeAutomaton) (ok : IsAccepted kinds a) where
-  rule_is : (s i c : ℕ) → slice_index_or (state_at a s).rules i Parent ≡ Child c → rule_at a s i ≡ Child c
+  pub rule_is : (s i c : ℕ) → slice_index_or (state_at a s).rules i Parent ≡ Child c → rule_at a s i ≡ Child c
   unfolding rule_at
   rule_is s i c h = h
 
-  goes_on : (s i c : ℕ) → s < length a.states → i < length (state_at a s).rules → rule_at a s i ≡ Child c → (i < side_count kinds a s) × (rule_at a s i ≡ Child (child_of (rule_at a s i)))
+  pub goes_on : (s i c : ℕ) → s < length a.states → i < length (state_at a s).rules → rule_at a s i ≡ Child c → (i < side_count kinds a s) × (rule_at a s i ≡ Child (child_of (rule_at a s i)))
   goes_on s i c ls lt h = (subst (λ n. i < n) (ok.c1.tables s ls).rules lt, h ∙ ap (λ r. Child (child_of r)) (sym h))
 
-  child_below : (s i c : ℕ) → s < length a.states → i < side_count kinds a s → rule_at a s i ≡ Child c → c < length a.states
+  pub child_below : (s i c : ℕ) → s < length a.states → i < side_count kinds a s → rule_at a s i ≡ Child c → c < length a.states
   child_below s i c ls lt h = (ok.c1.targets s ls).child i c lt h
 
   -- a path tells states of two keys apart

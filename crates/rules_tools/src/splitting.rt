@@ -30,15 +30,13 @@ pub(crate) struct Classes {
 
 /// Classes with their members.
 fn with_members(alloc: Global, class: Vec<u32>) -> Result<Classes, AllocError>
+    requires { length class.items ≤ 100000 }
     ensures class { IfOk result (λ x. x.class.items ≡ class.items) }
     ensures members { IfOk result HasMembers }
 {
     let mut members = Vec::new(alloc);
-    for s in 0..class.len() {
-        let Ok(state) = u32::try_from(s) else {
-            return Err(AllocError);
-        };
-        add_to(alloc, &mut members, class[s], state)?;
+    for s in 0..class.len() as u32 {
+        add_to(alloc, &mut members, class[s as usize], s)?;
     }
     Ok(Classes { class, members })
 }
@@ -100,6 +98,31 @@ fn states_of(rows: &Vec<Vec<u32>>, k: u32) -> &[u32]
     }
 }
 
+/// Puts the parents of a member of a class into the rows of their sides, where it has not left it.
+fn add_parents_of(
+    found: &mut Vec<Vec<u32>>,
+    class: &[u32],
+    parents: &Parents,
+    number: u32,
+    u: u32,
+) -> Result<(), AllocError>
+    requires { length found.old.items ≡ 64 }
+    ensures long { length found.new.items ≡ 64 }
+    ensures added { OnOk result ((x : Parent) → class_of class.now u ≡ number
+        → HasParent parents.now u x → x.side < 64
+        → Contains (row found.new.items x.side) x.state) }
+    ensures kept { OnOk result (KeepsRows found.old.items found.new.items) }
+    ensures only { OnOk result ((i s : ℕ) → Contains (row found.new.items i) s
+        → Contains (row found.old.items i) s ⊎ ((class_of class.now u ≡ number)
+        × HasParent parents.now u (record { state = s; side = i }))) }
+{
+    if class_of(class, u) != number {
+        return Ok(());
+    }
+    add_parents(found, parents, u)?;
+    Ok(())
+}
+
 /// Finds the states with a child in a class, each in the row of the side.
 fn find_parents(
     found: &mut Vec<Vec<u32>>,
@@ -113,9 +136,7 @@ fn find_parents(
 {
     clear(found);
     for u in states_of(&x.members, number) {
-        if class_of(&x.class, *u) == number {
-            add_parents(found, parents, *u)?;
-        }
+        add_parents_of(found, &x.class, parents, number, *u)?;
     }
     Ok(())
 }
