@@ -215,6 +215,11 @@ zero_class (suc n) (suc s) = zero_class n s
 pub zeros_apart : (kinds : List TileKind) (a : TreeAutomaton) (n : ℕ) → AreApart kinds a (replicate n 0)
 zeros_apart kinds a n s t ls lt d = absurd (d (zero_class n s ∙ sym (zero_class n t)))
 
+-- classes by keys over a single class
+pub first_apart : (kinds : List TileKind) (a : TreeAutomaton) → IsAccepted kinds a → (start faces : List ℕ) (n count : ℕ) → start ≡ replicate n 0 → AreByKey a start faces count → AreApart kinds a faces
+first_apart kinds a ok start faces n count zeros keys =
+    by_key_apart kinds a ok start faces count (subst (AreApart kinds a) (sym zeros) (zeros_apart kinds a n)) keys
+
 -- keys without classes are of faces
 pub are_faces : (a : TreeAutomaton) (faces : List ℕ) (count : ℕ) → AreByKey a [] faces count → AreFaces a faces
 are_faces a faces count keys s t ls lt = (

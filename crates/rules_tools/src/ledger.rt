@@ -114,7 +114,11 @@ impl Ledger {
         self.accounts[k].size = rest;
         self.targets[k] = new;
         self.open(account.met)?;
-        let lesser = if account.waits || account.met <= rest { new } else { number };
+        let lesser = if account.waits || account.met <= rest {
+            new
+        } else {
+            number
+        };
         self.wait(lesser)
     }
 

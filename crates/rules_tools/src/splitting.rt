@@ -267,11 +267,7 @@ fn split_by(
 
 /// Classes that paths tell apart, of classes that paths tell apart: split as far as it goes.
 /// A class waits once for each time that it is new, so there are no more turns than states.
-pub(crate) fn refined(
-    alloc: Global,
-    a: &Automaton,
-    start: Vec<u32>,
-) -> Result<Vec<u32>, AllocError>
+pub(crate) fn refined(alloc: Global, a: &Automaton, start: Vec<u32>) -> Result<Vec<u32>, AllocError>
     requires few { length a.now.states ≤ 100000 }
     requires long { length start.items ≡ length a.now.states }
     ensures long { IfOk result (λ v. length v.items ≡ length a.now.states) }
