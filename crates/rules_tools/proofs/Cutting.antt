@@ -10,19 +10,15 @@ use Rattle.tree_model.specs.declared.Rule.TheVariants.{Parent as ParentSide, Chi
 use Rattle.tree_model.specs.Automata.{TreeAutomaton, state_at, rule_at, side_count}
 use Rattle.tree_model.specs.Conditions.{IsAccepted}
 use Rattle.tree_model.specs.Names.{child_of}
-use Rattle.merge_model.specs.Faces.{face_at}
-use Rattle.merge_model.specs.Telling.{AreTold, TellsApart}
-use Rattle.merge_laws.proofs.Copies.{face_sides, face_child}
+use Rattle.merge_model.specs.Telling.{AreTold}
 use Rattle.merge_laws.proofs.Paths.{face_told, child_told, GoesOn, same_goes_on}
-use Rattle.rules_tools.specs.declared.parents.Parent.{Parent}
 use Rattle.rules_tools.specs.declared.parents.Parents.{Parents}
 use Rattle.rules_tools.specs.declared.splitting.Classes.{Classes}
 use Rattle.rules_tools.specs.Keys.{class_of}
 use Rattle.rules_tools.specs.Classes.{AreApart}
 use Rattle.rules_tools.specs.Rows.{row}
 use Rattle.rules_tools.specs.Searches.{IsChild}
-use Rattle.rules_tools.specs.Parents.{HasParent}
-use Rattle.rules_tools.specs.Splitting.{HasMembers, HasParents, IsApart, AreFound, IsCut, Cuts}
+use Rattle.rules_tools.specs.Splitting.{HasParents, IsApart, AreFound, IsCut, Cuts}
 use Rattle.rules_tools.proofs.Refining.{rule_is, goes_on, child_below}
 
 -- an element, or none

@@ -1,6 +1,5 @@
-use Rattle.std.proofs.Common.{◌≡◌, ◌≢◌, ◌⊎◌, inl, inr, ℕ, ◌+◌, ◌<◌, refl, subst, sym, arith}
+use Rattle.std.proofs.Common.{◌≡◌, ◌≢◌, ◌⊎◌, inl, inr, ℕ, ◌+◌, ◌<◌, subst, sym, arith}
 use Rattle.std.proofs.lemmas.Bool.{cases_eq}
-use Rattle.rules_tools.specs.declared.parents.Parent.{Parent}
 use Rattle.rules_tools.specs.Searches.{IsChild}
 use Rattle.rules_tools.specs.Parents.{HasParent}
 use Rattle.rules_tools.proofs.parents.put_state.Goals as goal

@@ -1,5 +1,4 @@
-use Rattle.std.proofs.Common.{◌≡◌, ℕ, ◌+◌, ◌<◌, ◌≤◌, [], ◌∷◌, ◌++◌, length, sym, ap, subst, arith}
-use Rattle.std.proofs.lemmas.Bool.{cases_lt}
+use Rattle.std.proofs.Common.{ℕ, ◌<◌, ◌≤◌, length, sym, subst, arith}
 use Rattle.rules_tools.specs.Keys.{class_of as number_at}
 use Rattle.rules_tools.specs.Parents.{AreRising}
 use Rattle.rules_tools.proofs.Roomy.{rising_more, most_more}

@@ -3,7 +3,7 @@ use Rattle.std.proofs.Common.{◌≡◌, length, List}
 use Rattle.tile_model.specs.Tessellations.{TileKind}
 use Rattle.tree_model.specs.Conditions.{IsAccepted}
 use Rattle.rules_tools.specs.Classes.{AreApart}
-use Rattle.rules_tools.specs.Splitting.{HasMembers, IsApart}
+use Rattle.rules_tools.specs.Splitting.{IsApart}
 use Rattle.rules_tools.proofs.splitting.refined.Given as goal
 
 abbrev pub invariant-loop-turn : goal.invariant-loop-turn

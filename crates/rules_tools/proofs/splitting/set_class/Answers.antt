@@ -1,4 +1,4 @@
-use Rattle.std.proofs.Common.{◌<◌, length, set, sym, ap, ◌∙◌, arith}
+use Rattle.std.proofs.Common.{set, arith}
 use Rattle.std.proofs.lemmas.List.{length-set, get_or-set_same, get_or-set_other}
 use Rattle.rules_tools.proofs.Cutting.{set_members}
 use Rattle.rules_tools.proofs.splitting.set_class.Goals as goal
