@@ -10,3 +10,6 @@ pub mod Growing
 pub mod Told
 pub mod Keeping
 pub mod Stable
+pub mod Rowed
+pub mod Roomy
+pub mod Cutting

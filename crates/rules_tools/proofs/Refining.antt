@@ -45,14 +45,14 @@ by_key_few a before class count keys = go count refl
     go (suc n) e = let (s, ls, q) = keys.used n (omega (arith, e)) in omega (arith, most n s ls q, ls)
 
 module _ (kinds : List TileKind) (a : TreeAutomaton) (ok : IsAccepted kinds a) where
-  rule_is : (s i c : ℕ) → slice_index_or (state_at a s).rules i Parent ≡ Child c → rule_at a s i ≡ Child c
+  pub rule_is : (s i c : ℕ) → slice_index_or (state_at a s).rules i Parent ≡ Child c → rule_at a s i ≡ Child c
   unfolding rule_at
   rule_is s i c h = h
 
-  goes_on : (s i c : ℕ) → s < length a.states → i < length (state_at a s).rules → rule_at a s i ≡ Child c → (i < side_count kinds a s) × (rule_at a s i ≡ Child (child_of (rule_at a s i)))
+  pub goes_on : (s i c : ℕ) → s < length a.states → i < length (state_at a s).rules → rule_at a s i ≡ Child c → (i < side_count kinds a s) × (rule_at a s i ≡ Child (child_of (rule_at a s i)))
   goes_on s i c ls lt h = (subst (λ n. i < n) (ok.c1.tables s ls).rules lt, h ∙ ap (λ r. Child (child_of r)) (sym h))
 
-  child_below : (s i c : ℕ) → s < length a.states → i < side_count kinds a s → rule_at a s i ≡ Child c → c < length a.states
+  pub child_below : (s i c : ℕ) → s < length a.states → i < side_count kinds a s → rule_at a s i ≡ Child c → c < length a.states
   child_below s i c ls lt h = (ok.c1.targets s ls).child i c lt h
 
   -- a path tells states of two keys apart
@@ -214,6 +214,11 @@ zero_class (suc n) (suc s) = zero_class n s
 
 pub zeros_apart : (kinds : List TileKind) (a : TreeAutomaton) (n : ℕ) → AreApart kinds a (replicate n 0)
 zeros_apart kinds a n s t ls lt d = absurd (d (zero_class n s ∙ sym (zero_class n t)))
+
+-- classes by keys over a single class
+pub first_apart : (kinds : List TileKind) (a : TreeAutomaton) → IsAccepted kinds a → (start faces : List ℕ) (n count : ℕ) → start ≡ replicate n 0 → AreByKey a start faces count → AreApart kinds a faces
+first_apart kinds a ok start faces n count zeros keys =
+    by_key_apart kinds a ok start faces count (subst (AreApart kinds a) (sym zeros) (zeros_apart kinds a n)) keys
 
 -- keys without classes are of faces
 pub are_faces : (a : TreeAutomaton) (faces : List ℕ) (count : ℕ) → AreByKey a [] faces count → AreFaces a faces

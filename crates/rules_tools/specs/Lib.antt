@@ -6,3 +6,6 @@ pub mod Joined
 pub mod Pairs
 pub mod Searches
 pub mod Firsts
+pub mod Rows
+pub mod Parents
+pub mod Splitting

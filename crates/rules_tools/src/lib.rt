@@ -6,13 +6,17 @@ mod children;
 mod first_path;
 mod joined;
 mod keys;
+mod ledger;
 mod merging;
 mod numbers;
 mod pairs;
+mod parents;
 mod reached;
 mod reducing;
 mod rounds;
+mod rows;
 mod search;
+mod splitting;
 mod stability;
 
 pub use first_path::telling;

@@ -8,6 +8,7 @@ ghost use Rattle.rules_tools.specs.Classes.{AreApart, AreStable, AreByKey};
 use crate::children::count;
 use crate::keys::key;
 use crate::numbers::{plain, zeros};
+use crate::splitting::refined;
 use crate::stability::is_stable;
 use key_numbers::Numbering;
 use rules_data::Automaton;
@@ -67,5 +68,9 @@ pub(crate) fn settled(alloc: Global, a: &Automaton) -> Result<Vec<u32>, AllocErr
     if is_stable(alloc, a, &faces)? {
         return Ok(faces);
     }
-    settle(alloc, a, faces)
+    let class = refined(alloc, a, faces)?;
+    if is_stable(alloc, a, &class)? {
+        return Ok(class);
+    }
+    settle(alloc, a, class)
 }
