@@ -7,7 +7,8 @@ use crate::marks::Mark;
 use crate::piece::Piece;
 use std::alloc::{AllocError, Global};
 
-/// The most letters of a piece that is not cut in two.
+/// So many letters a piece may have. It may have more where there are more pieces than that, so that
+/// the way from piece to piece stays short.
 const LIMIT: usize = 4_096;
 
 /// A walk in pieces, of which there is one at least.
@@ -106,9 +107,10 @@ fn halve(alloc: Global, pieces: &mut Vec<Piece>, index: usize) -> Result<(), All
     ensures same { OnOk result (joined pieces.new.items ≡ joined pieces.old.items) }
     ensures front { OnOk result (KeepsFront pieces.old.items pieces.new.items index) }
 {
+    let most = LIMIT.max(pieces.len());
     let piece = &mut pieces[index];
     let count = piece.len();
-    if count > LIMIT {
+    if count > most {
         let rest = piece.cut(alloc, count / 2)?;
         pieces.insert(index + 1, rest)?;
     }
