@@ -1,6 +1,6 @@
 //! The piece in which a place lies.
-ghost use Rattle.std.specs.Prelude.{◌≡◌, ◌+◌, ◌<◌, ◌≤◌, length, IfSome, IfNone};
-ghost use Rattle.log_checker.specs.Trails.{joined, piece_at, Begins, Covers};
+ghost use Rattle.std.specs.Prelude.{◌+◌, ◌<◌, ◌≤◌, length, IfSome, IfNone};
+ghost use Rattle.log_checker.specs.Trails.{joined, Begins, Covers};
 
 use crate::piece::Piece;
 

@@ -3,7 +3,7 @@ ghost use Rattle.std.specs.Prelude.{◌≡◌, ◌≢◌, ◌+◌, ◌<◌, ◌�
 ghost use Rattle.std.specs.Prelude.{IsTrue, IfOk, OnOk};
 ghost use Rattle.log_checker.specs.Trails.{joined, piece_at, IsWith, KeepsFront};
 
-use crate::marks::Mark;
+use crate::footprints::Footprint;
 use crate::piece::Piece;
 use std::alloc::{AllocError, Global};
 
@@ -12,12 +12,12 @@ use std::alloc::{AllocError, Global};
 const LIMIT: usize = 4_096;
 
 /// A walk in pieces, of which there is one at least.
-pub(crate) fn pieces_of(alloc: Global, marks: &[Mark]) -> Result<Vec<Piece>, AllocError>
-    ensures joined { IfOk result (λ pieces. joined pieces.items ≡ marks.now) }
+pub(crate) fn pieces_of(alloc: Global, footprints: &[Footprint]) -> Result<Vec<Piece>, AllocError>
+    ensures joined { IfOk result (λ pieces. joined pieces.items ≡ footprints.now) }
     ensures some { IfOk result (λ pieces. 0 < length pieces.items) }
 {
     let mut pieces = Vec::new(alloc);
-    let mut rest = marks;
+    let mut rest = footprints;
     while rest.len() > LIMIT {
         let (front, behind) = rest.split_at(LIMIT);
         pieces.push(Piece::copied(alloc, front)?)?;
@@ -33,7 +33,7 @@ pub(crate) fn put(
     pieces: &mut Vec<Piece>,
     index: usize,
     offset: usize,
-    middle: &[Mark],
+    middle: &[Footprint],
 ) -> Result<(), AllocError>
     requires inside { index < length pieces.old.items }
     requires within { offset ≤ length (piece_at pieces.old.items index) }
@@ -55,7 +55,7 @@ pub(crate) fn take_out(
     pieces: &mut Vec<Piece>,
     index: usize,
     offset: usize,
-    middle: &[Mark],
+    middle: &[Footprint],
 ) -> Result<bool, AllocError>
     requires inside { index < length pieces.old.items }
     requires within { offset ≤ length (piece_at pieces.old.items index) }
@@ -96,7 +96,7 @@ fn gather(
     while pieces[index].len() - offset < wanted && index + 1 < pieces.len() {
         let next = pieces.remove(index + 1);
         let piece = &mut pieces[index];
-        piece.extend(next.marks())?;
+        piece.extend(next.footprints())?;
     }
     Ok(())
 }
