@@ -71,6 +71,7 @@ pub fn verify(
         → IsFirstRefused t.now from u.now log.now n }
     ensures end { IsErrOf result LogFault.End → LeadsElsewhere t.now from log.now u.now w.now }
 {
+    // That its kinds are valid is told by this call: the type after a loop is that before it.
     let _valid = t.all_kinds();
     let mut trail = Trail::new(alloc, t, from, u.letters())?;
     for (done, change) in log.iter().enumerate() {
