@@ -7,10 +7,10 @@ use Rattle.tile_model.specs.Tessellations.{TileKind}
 use Rattle.tile_model.specs.Relation.{Change, Changes, Lead}
 use Rattle.tile_model.proofs.Relations.{lead_append}
 use Rattle.log_model.specs.Logs.{IsAllowed, IsFirstRefused}
-use Rattle.log_checker.specs.Marks.{TypedLetter, letters}
+use Rattle.log_checker.specs.Footprints.{TypedLetter, letters}
 use Rattle.log_checker.specs.Trails.{joined, walk_of}
 use Rattle.log_checker.proofs.Pieces.{joined_push, joined_at, read_piece}
-use Rattle.log_checker.proofs.Marking.{letters_append}
+use Rattle.log_checker.proofs.LetterTypes.{letters_append}
 
 module _ (kinds : List TileKind) (d : ℕ × ℕ) (log : List Change) (i : ℕ) (c : Change) (u v : List Letter) (h : i < length log) (is : c ≡ slice_index_or log i c) (leads : Lead kinds d (take i log) u v) where
   -- one change more

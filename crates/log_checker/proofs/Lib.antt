@@ -1,6 +1,6 @@
 pub mod LoopLetters
 pub mod Pieces
-pub mod Marking
+pub mod LetterTypes
 pub mod Changing
 pub mod Following
 pub mod TypesAt

@@ -4,7 +4,7 @@ use Rattle.std.specs.List.{insert, remove}
 use Rattle.std.proofs.lemmas.List.{append-nil, take_all, take-append-drop, length-take-le, get_or_default, get_or_append_left, get_or-append-add, take-append-le, drop-append-le, take-set, length-set}
 use Rattle.std.proofs.lemmas.List.Edits.{length-remove}
 use Rattle.std.proofs.Math.Seq.{drop-append-add}
-use Rattle.log_checker.specs.Marks.{TypedLetter}
+use Rattle.log_checker.specs.Footprints.{TypedLetter}
 use Rattle.log_checker.specs.Trails.{joined, piece_at, Begins, Covers, IsWith, KeepsFront}
 
 pub joined_append : (a b : List (List TypedLetter)) → joined (a ++ b) ≡ joined a ++ joined b

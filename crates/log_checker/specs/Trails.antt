@@ -1,7 +1,7 @@
 -- Lists that are kept in pieces, and what is put into them and taken out.
 use Rattle.std.specs.Prelude.{◌≡◌, ℕ, ◌+◌, ◌<◌, ◌≤◌, List, [], ◌∷◌, ◌++◌, length, take, slice_index_or}
 use Rattle.tile_model.specs.declared.Letter.{Letter}
-use Rattle.log_checker.specs.Marks.{TypedLetter, letters}
+use Rattle.log_checker.specs.Footprints.{TypedLetter, letters}
 
 -- the pieces, one behind the other
 abbrev pub joined : List (List TypedLetter) → List TypedLetter

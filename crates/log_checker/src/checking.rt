@@ -7,11 +7,11 @@ ghost use Rattle.tile_model.specs.Validity.{IsValid};
 ghost use Rattle.tile_model.specs.Walks.{type_of};
 ghost use Rattle.tile_model.specs.Relation.{Changes, Lead};
 ghost use Rattle.log_model.specs.Logs.{IsAllowed, IsFirstRefused, LeadsElsewhere};
-ghost use Rattle.log_checker.specs.Marks.{letters, AreMarked};
+ghost use Rattle.log_checker.specs.Footprints.{letters, AreTyped};
 ghost use Rattle.log_checker.specs.Trails.{joined, walk_of, Begins, Covers};
 
+use crate::footprints::{Footprint, after, with_types};
 use crate::loops::loop_at;
-use crate::marks::{Mark, after, with_types};
 use crate::piece::Piece;
 use crate::seeking::{Start, seek};
 use crate::trail::{pieces_of, put, take_out};
@@ -71,6 +71,7 @@ pub fn verify(
         → IsFirstRefused t.now from u.now log.now n }
     ensures end { IsErrOf result LogFault.End → LeadsElsewhere t.now from log.now u.now w.now }
 {
+    // That its kinds are valid is told by this call: the type after a loop is that before it.
     let _valid = t.all_kinds();
     let mut trail = Trail::new(alloc, t, from, u.letters())?;
     for (done, change) in log.iter().enumerate() {
@@ -100,13 +101,13 @@ impl Trail {
         u: &[Letter],
     ) -> Result<Trail, AllocError>
         requires { IsType t.now from }
-        ensures marked { IfOk result (λ trail. AreMarked t.now from (joined trail.pieces.items)) }
+        ensures typed { IfOk result (λ trail. AreTyped t.now from (joined trail.pieces.items)) }
         ensures begins { IfOk result
             (λ trail. Begins trail.pieces.items trail.near.index trail.near.before) }
         ensures walk { IfOk result (λ trail. walk_of trail.pieces.items ≡ u.now) }
     {
-        let marks = with_types(alloc, t, from, u)?;
-        let pieces = pieces_of(alloc, &marks)?;
+        let footprints = with_types(alloc, t, from, u)?;
+        let pieces = pieces_of(alloc, &footprints)?;
         let near = Start {
             index: 0,
             before: 0,
@@ -124,10 +125,10 @@ impl Trail {
     ) -> Result<bool, AllocError>
         requires valid { IsValid t.now }
         requires is_type { IsType t.now from }
-        requires marked { AreMarked t.now from (joined self.old.pieces.items) }
+        requires typed { AreTyped t.now from (joined self.old.pieces.items) }
         requires begins { Begins self.old.pieces.items self.old.near.index self.old.near.before }
-        ensures marked { IfOk result (λ done. IsTrue done
-            → AreMarked t.now from (joined self.new.pieces.items)) }
+        ensures typed { IfOk result (λ done. IsTrue done
+            → AreTyped t.now from (joined self.new.pieces.items)) }
         ensures begins { IfOk result (λ done. IsTrue done
             → Begins self.new.pieces.items self.new.near.index self.new.near.before) }
         ensures changed { IfOk result (λ done. IsTrue done
@@ -159,7 +160,7 @@ impl Trail {
 fn type_at(t: &Tessellation, from: DartType, pieces: &[Piece], near: Start, place: u64) -> DartType
     requires valid { IsValid t.now }
     requires is_type { IsType t.now from }
-    requires marked { AreMarked t.now from (joined pieces.now) }
+    requires typed { AreTyped t.now from (joined pieces.now) }
     requires covers { Covers pieces.now near.index near.before place }
     ensures value { result ≡ type_of t.now from (take place (walk_of pieces.now)) }
     ensures is_type { IsType t.now result }
@@ -168,7 +169,7 @@ fn type_at(t: &Tessellation, from: DartType, pieces: &[Piece], near: Start, plac
         return from;
     }
     let piece = &pieces[near.index];
-    let last = piece.marks()[(place - near.before - 1) as usize];
+    let last = piece.footprints()[(place - near.before - 1) as usize];
     after(t, last.at, last.letter)
 }
 
@@ -178,7 +179,7 @@ fn is_walk(pieces: &[Piece], w: &[Letter]) -> bool
 {
     let mut rest = w;
     for piece in pieces {
-        match without(rest, piece.marks()) {
+        match without(rest, piece.footprints()) {
             Some(behind) => rest = behind,
             None => return false,
         }
@@ -195,16 +196,16 @@ fn are_same(x: Letter, y: Letter) -> bool
 
 /// What follows the letters of a piece in a walk. None comes where the walk does not begin with
 /// them.
-fn without<'a>(w: &'a [Letter], marks: &[Mark]) -> Option<&'a [Letter]>
-    ensures some { IfSome result (λ rest. w.now ≡ letters marks.now ++ rest.now) }
-    ensures none { IfNone result ((rest : List Letter) → w.now ≢ letters marks.now ++ rest) }
+fn without<'a>(w: &'a [Letter], footprints: &[Footprint]) -> Option<&'a [Letter]>
+    ensures some { IfSome result (λ rest. w.now ≡ letters footprints.now ++ rest.now) }
+    ensures none { IfNone result ((rest : List Letter) → w.now ≢ letters footprints.now ++ rest) }
 {
     let mut rest = w;
-    for mark in marks {
+    for footprint in footprints {
         let Some((first, behind)) = rest.split_first() else {
             return None;
         };
-        if !are_same(*first, mark.letter) {
+        if !are_same(*first, footprint.letter) {
             return None;
         }
         rest = behind;

@@ -4,8 +4,8 @@
 #![tactic(auto)]
 
 mod checking;
+mod footprints;
 mod loops;
-mod marks;
 mod piece;
 mod seeking;
 #[cfg(test)]

@@ -1,56 +1,55 @@
 //! A piece of a walk, in which letters are put and from which they are taken.
-ghost use Rattle.std.specs.Prelude.{◌≡◌, ◌≢◌, ◌+◌, ◌<◌, ◌≤◌, ◌++◌, false, length, take, drop};
-ghost use Rattle.std.specs.Prelude.{IsTrue, IfOk, OnOk, slice_index_or};
-ghost use Rattle.log_checker.specs.Marks.{TypedLetter};
+ghost use Rattle.std.specs.Prelude.{◌≡◌, ◌≢◌, ◌≤◌, ◌++◌, false, length, take, drop};
+ghost use Rattle.std.specs.Prelude.{IsTrue, IfOk, OnOk};
 ghost use Rattle.log_checker.specs.Trails.{IsWith};
 
-use crate::marks::Mark;
+use crate::footprints::Footprint;
 use std::alloc::{AllocError, Global};
 use std::marker::Model;
 
 /// A piece of a walk.
 #[derive(Debug, Drop)]
 pub(crate) struct Piece {
-    marks: Vec<Mark>,
+    footprints: Vec<Footprint>,
 }
 
 impl Model for Piece {
     ghost use Rattle.std.specs.Prelude.{List};
-    ghost use Rattle.log_checker.specs.Marks.{TypedLetter};
+    ghost use Rattle.log_checker.specs.Footprints.{TypedLetter};
 
     ghost Value = { List TypedLetter };
 
-    ghost view = { λ p. p.marks.items };
+    ghost view = { λ p. p.footprints.items };
 }
 
 impl Piece {
     /// A copy of letters.
-    pub(crate) fn copied(alloc: Global, marks: &[Mark]) -> Result<Piece, AllocError>
-        ensures { IfOk result (λ piece. piece ≡ marks.now) }
+    pub(crate) fn copied(alloc: Global, footprints: &[Footprint]) -> Result<Piece, AllocError>
+        ensures { IfOk result (λ piece. piece ≡ footprints.now) }
     {
-        let marks = Vec::from_slice(alloc, marks)?;
-        Ok(Piece { marks })
+        let footprints = Vec::from_slice(alloc, footprints)?;
+        Ok(Piece { footprints })
     }
 
     /// The letters.
-    pub(crate) fn marks(&self) -> &[Mark]
+    pub(crate) fn footprints(&self) -> &[Footprint]
         ensures { result.now ≡ self.now }
     {
-        &self.marks
+        &self.footprints
     }
 
     /// The number of letters.
     pub(crate) fn len(&self) -> usize
         ensures { result ≡ length self.now }
     {
-        self.marks.len()
+        self.footprints.len()
     }
 
     /// Adds letters at the end.
-    pub(crate) fn extend(&mut self, marks: &[Mark]) -> Result<(), AllocError>
-        ensures { OnOk result (self.new ≡ self.old ++ marks.now) }
+    pub(crate) fn extend(&mut self, footprints: &[Footprint]) -> Result<(), AllocError>
+        ensures { OnOk result (self.new ≡ self.old ++ footprints.now) }
     {
-        self.marks.extend_from_slice(marks)?;
+        self.footprints.extend_from_slice(footprints)?;
         Ok(())
     }
 
@@ -60,8 +59,8 @@ impl Piece {
         ensures kept { IfOk result (λ rest. self.new ≡ take keep self.old) }
         ensures rest { IfOk result (λ rest. rest ≡ drop keep self.old) }
     {
-        let rest = Piece::copied(alloc, &self.marks[keep..])?;
-        self.marks.truncate(keep);
+        let rest = Piece::copied(alloc, &self.footprints[keep..])?;
+        self.footprints.truncate(keep);
         Ok(rest)
     }
 
@@ -70,14 +69,14 @@ impl Piece {
         &mut self,
         alloc: Global,
         offset: usize,
-        middle: &[Mark],
+        middle: &[Footprint],
     ) -> Result<(), AllocError>
         requires { offset ≤ length self.old }
         ensures { OnOk result (IsWith offset middle.now self.old self.new) }
     {
         let rest = self.cut(alloc, offset)?;
         self.extend(middle)?;
-        self.extend(&rest.marks)?;
+        self.extend(&rest.footprints)?;
         Ok(())
     }
 
@@ -87,7 +86,7 @@ impl Piece {
         &mut self,
         alloc: Global,
         offset: usize,
-        middle: &[Mark],
+        middle: &[Footprint],
     ) -> Result<bool, AllocError>
         requires { offset ≤ length self.old }
         ensures out { IfOk result (λ done. IsTrue done
@@ -96,11 +95,11 @@ impl Piece {
             → take (length middle.now) (drop offset self.old) ≢ middle.now) }
     {
         let mut behind = self.cut(alloc, offset)?;
-        if !behind.marks.starts_with(middle) {
+        if !behind.footprints.starts_with(middle) {
             return Ok(false);
         }
         let rest = behind.cut(alloc, middle.len())?;
-        self.extend(&rest.marks)?;
+        self.extend(&rest.footprints)?;
         Ok(true)
     }
 }

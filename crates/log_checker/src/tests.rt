@@ -104,7 +104,8 @@ fn answer(alloc: Global, t: &Tessellation, row: &Row) -> Result<Option<LogFault>
             insert: *insert,
         })?;
     }
-    let _valid = t.kinds();
+    // It tells that there is a kind 0.
+    let _kinds = t.kinds();
     let u = read_walk(alloc, u.as_bytes())?;
     let w = read_walk(alloc, w.as_bytes())?;
     Ok(verify(alloc, t, t.start(0), &u, &log, &w).err())
@@ -153,7 +154,8 @@ fn follows_a_long_log(rt: HostRuntime) -> Result<(), Fail> {
             insert: false,
         })?;
     }
-    let _valid = t.kinds();
+    // It tells that there is a kind 0.
+    let _kinds = t.kinds();
     let empty = read_walk(alloc, b"-")?;
     let got = verify(alloc, &t, t.start(0), &empty, &log, &empty);
     assert_eq!(rt; got, Ok(()));

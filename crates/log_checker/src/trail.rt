@@ -3,20 +3,21 @@ ghost use Rattle.std.specs.Prelude.{◌≡◌, ◌≢◌, ◌+◌, ◌<◌, ◌�
 ghost use Rattle.std.specs.Prelude.{IsTrue, IfOk, OnOk};
 ghost use Rattle.log_checker.specs.Trails.{joined, piece_at, IsWith, KeepsFront};
 
-use crate::marks::Mark;
+use crate::footprints::Footprint;
 use crate::piece::Piece;
 use std::alloc::{AllocError, Global};
 
-/// The most letters of a piece that is not cut in two.
+/// So many letters a piece may have. It may have more where there are more pieces than that, so that
+/// the way from piece to piece stays short.
 const LIMIT: usize = 4_096;
 
 /// A walk in pieces, of which there is one at least.
-pub(crate) fn pieces_of(alloc: Global, marks: &[Mark]) -> Result<Vec<Piece>, AllocError>
-    ensures joined { IfOk result (λ pieces. joined pieces.items ≡ marks.now) }
+pub(crate) fn pieces_of(alloc: Global, footprints: &[Footprint]) -> Result<Vec<Piece>, AllocError>
+    ensures joined { IfOk result (λ pieces. joined pieces.items ≡ footprints.now) }
     ensures some { IfOk result (λ pieces. 0 < length pieces.items) }
 {
     let mut pieces = Vec::new(alloc);
-    let mut rest = marks;
+    let mut rest = footprints;
     while rest.len() > LIMIT {
         let (front, behind) = rest.split_at(LIMIT);
         pieces.push(Piece::copied(alloc, front)?)?;
@@ -32,7 +33,7 @@ pub(crate) fn put(
     pieces: &mut Vec<Piece>,
     index: usize,
     offset: usize,
-    middle: &[Mark],
+    middle: &[Footprint],
 ) -> Result<(), AllocError>
     requires inside { index < length pieces.old.items }
     requires within { offset ≤ length (piece_at pieces.old.items index) }
@@ -54,7 +55,7 @@ pub(crate) fn take_out(
     pieces: &mut Vec<Piece>,
     index: usize,
     offset: usize,
-    middle: &[Mark],
+    middle: &[Footprint],
 ) -> Result<bool, AllocError>
     requires inside { index < length pieces.old.items }
     requires within { offset ≤ length (piece_at pieces.old.items index) }
@@ -95,7 +96,7 @@ fn gather(
     while pieces[index].len() - offset < wanted && index + 1 < pieces.len() {
         let next = pieces.remove(index + 1);
         let piece = &mut pieces[index];
-        piece.extend(next.marks())?;
+        piece.extend(next.footprints())?;
     }
     Ok(())
 }
@@ -106,9 +107,10 @@ fn halve(alloc: Global, pieces: &mut Vec<Piece>, index: usize) -> Result<(), All
     ensures same { OnOk result (joined pieces.new.items ≡ joined pieces.old.items) }
     ensures front { OnOk result (KeepsFront pieces.old.items pieces.new.items index) }
 {
+    let most = LIMIT.max(pieces.len());
     let piece = &mut pieces[index];
     let count = piece.len();
-    if count > LIMIT {
+    if count > most {
         let rest = piece.cut(alloc, count / 2)?;
         pieces.insert(index + 1, rest)?;
     }

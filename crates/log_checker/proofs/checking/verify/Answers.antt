@@ -13,6 +13,6 @@ returns-then-not-branch-clause-change c = λ n e.
 pub loop-done-preserved : goal.loop-done-preserved
 loop-done-preserved c = record {
   leads = lead_more c.args.t.now c.args.from c.args.log.now c.loop-done.done c.index-log-done.result c.args.u.now (walk_of c.loop-done.trail.pieces.items) c.loop-done-test.true c.index-log-done.is c.loop-done.invariant.leads (walk_of c.apply.new.self.pieces.items) (c.in_ok-apply.ensures.changed c.if-not-branch.false);
-  marked = c.in_ok-apply.ensures.marked c.if-not-branch.false;
+  typed = c.in_ok-apply.ensures.typed c.if-not-branch.false;
   begins = c.in_ok-apply.ensures.begins c.if-not-branch.false;
 }

@@ -12,7 +12,7 @@ loop-pieces-preserved c =
     let q = c.extend.new.self in
     let out = c.remove-next.ensures.items in
     let h : i + 1 < length ps = omega (arith, c.if-index-len.true, c.loop-pieces.pieces.ok.0) in
-    let sum = c.in_ok-extend.ensures ∙ ap (λ m. p ++ m) c.marks.ensures in
+    let sum = c.in_ok-extend.ensures ∙ ap (λ m. p ++ m) c.footprints.ensures in
     record {
       same = gathered_same ps rs i p n q out h c.index_mut-piece.ensures.value c.remove-next.ensures.value sum ∙ c.loop-pieces.invariant.same;
       front = gathered_front ps rs i p n q out h c.index_mut-piece.ensures.value c.remove-next.ensures.value sum c.args.pieces.now.items c.loop-pieces.invariant.front;

@@ -1,11 +1,12 @@
 use Rattle.std.proofs.Common.{◌∙◌, ◌++◌, ap}
+use Rattle.log_checker.specs.declared.trail.TheConstants.{LIMIT}
 use Rattle.log_checker.specs.Trails.{joined}
 use Rattle.log_checker.proofs.Pieces.{joined_push, cut_from}
 use Rattle.log_checker.proofs.trail.pieces_of.Goals as goal
 
 pub loop-rest-preserved : goal.loop-rest-preserved
 loop-rest-preserved c =
-    cut_from c.loop-rest.pieces.items c.push.new.self.items 4096 c.in_ok-copied.field-0 c.split_at.result.0.now c.split_at.result.1.now c.loop-rest.rest.now c.in_ok-push.ensures.items c.in_ok-copied.ensures c.split_at.ensures.front c.split_at.ensures.back ∙ c.loop-rest.invariant
+    cut_from c.loop-rest.pieces.items c.push.new.self.items LIMIT c.in_ok-copied.field-0 c.split_at.result.0.now c.split_at.result.1.now c.loop-rest.rest.now c.in_ok-push.ensures.items c.in_ok-copied.ensures c.split_at.ensures.front c.split_at.ensures.back ∙ c.loop-rest.invariant
 
 pub returns-clause-joined : goal.returns-clause-joined
 returns-clause-joined c =

@@ -2,7 +2,7 @@ use Rattle.std.proofs.Common.{◌≡◌, ℕ, true, ◌++◌, ◌∙◌, length,
 use Rattle.std.proofs.lemmas.List.{take-append-drop}
 use Rattle.std.proofs.lemmas.Slice.Eq.{starts_is}
 use Rattle.tile_model.specs.declared.Letter.{Letter}
-use Rattle.log_checker.specs.contracts.marks.MarkPartialEq.TheImpl.{eq-value}
+use Rattle.log_checker.specs.contracts.footprints.FootprintPartialEq.TheImpl.{eq-value}
 use Rattle.log_checker.proofs.Pieces.{taken_out}
 use Rattle.log_checker.proofs.piece.Piece.take_out.Goals as goal
 

@@ -2,7 +2,7 @@
 ghost use Rattle.std.specs.Prelude.{◌≡◌, IfOk};
 ghost use Rattle.tile_model.specs.Tessellations.{IsType};
 ghost use Rattle.tile_model.specs.Walks.{step};
-ghost use Rattle.log_checker.specs.Marks.{marked};
+ghost use Rattle.log_checker.specs.Footprints.{typed};
 
 use std::alloc::{AllocError, Global};
 use std::marker::Model;
@@ -11,12 +11,12 @@ use tile_model::Letter;
 
 /// A letter of a walk, and the type at which it stands.
 #[derive(Clone, Copy, Debug, PartialEq, Eq)]
-pub(crate) struct Mark {
+pub(crate) struct Footprint {
     pub(crate) letter: Letter,
     pub(crate) at: DartType,
 }
 
-impl Model for Mark {
+impl Model for Footprint {
     ghost use Rattle.std.specs.Prelude.{ℕ};
     ghost use Rattle.tile_model.specs.declared.Letter.{Letter};
 
@@ -46,15 +46,15 @@ pub(crate) fn with_types(
     t: &Tessellation,
     from: DartType,
     letters: &[Letter],
-) -> Result<Vec<Mark>, AllocError>
+) -> Result<Vec<Footprint>, AllocError>
     requires { IsType t.now from }
-    ensures { IfOk result (λ marks. marks.items ≡ marked t.now from letters.now) }
+    ensures { IfOk result (λ footprints. footprints.items ≡ typed t.now from letters.now) }
 {
-    let mut marks = Vec::with_capacity(alloc, letters.len())?;
+    let mut footprints = Vec::with_capacity(alloc, letters.len())?;
     let mut at = from;
     for x in letters {
-        marks.push(Mark { letter: *x, at })?;
+        footprints.push(Footprint { letter: *x, at })?;
         at = after(t, at, *x);
     }
-    Ok(marks)
+    Ok(footprints)
 }

@@ -9,14 +9,14 @@ abbrev pub TypedLetter : Type 0
 TypedLetter = Letter × (ℕ × ℕ)
 
 -- the letters of a walk from a type, each with the type at which it stands
-abbrev pub marked : List TileKind → ℕ × ℕ → List Letter → List TypedLetter
-marked kinds d [] = []
-marked kinds d (x ∷ walk) = (x, d) ∷ marked kinds (step kinds d x) walk
+abbrev pub typed : List TileKind → ℕ × ℕ → List Letter → List TypedLetter
+typed kinds d [] = []
+typed kinds d (x ∷ walk) = (x, d) ∷ typed kinds (step kinds d x) walk
 
 -- the letters alone
 abbrev pub letters : List TypedLetter → List Letter
-letters marks = map (λ (x, d). x) marks
+letters footprints = map (λ (x, d). x) footprints
 
 -- each letter tells the type at which it stands in the walk from d
-abbrev pub AreMarked : List TileKind → ℕ × ℕ → List TypedLetter → Type 0
-AreMarked kinds d marks = marks ≡ marked kinds d (letters marks)
+abbrev pub AreTyped : List TileKind → ℕ × ℕ → List TypedLetter → Type 0
+AreTyped kinds d footprints = footprints ≡ typed kinds d (letters footprints)

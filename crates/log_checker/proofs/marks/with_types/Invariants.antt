@@ -1,8 +1,0 @@
--- What stands there, and the letters left from the type reached, are the whole.
-use Rattle.std.proofs.Common.{◌≡◌, ◌++◌, drop}
-use Rattle.tile_model.specs.Tessellations.{IsType}
-use Rattle.log_checker.specs.Marks.{marked}
-use Rattle.log_checker.proofs.marks.with_types.Given as goal
-
-abbrev pub invariant-loop-x : goal.invariant-loop-x
-invariant-loop-x l = record { is_type : IsType l.t l.at; whole : l.marks.items ++ marked l.t l.at (drop l.x-index l.letters) ≡ marked l.t l.fn.from l.letters }
